@@ -1,0 +1,5 @@
+pub mod Orders
+pub mod Refusal
+pub mod Cover
+pub mod Choice
+pub mod Search
