@@ -1,0 +1,6 @@
+// Prints a day file for a person.
+mod moves;
+
+fn main(rt: LibcRuntime) -> std::io::Result<()> {
+    println!(rt, "statement")
+}
