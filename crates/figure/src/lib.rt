@@ -5,6 +5,8 @@ mod order;
 mod window;
 
 pub use fault::FigureFault;
+pub use fault::FigureFaultDebug;
+pub use fault::FigureFaultPartialEq;
 pub use kinds::Ratio;
 pub use kinds::Yen;
 pub use order::Figure;

@@ -6,4 +6,6 @@ mod reading;
 mod writing;
 
 pub use entry::Record;
+pub use entry::RecordDebug;
+pub use entry::RecordPartialEq;
 pub use host::jaswirku_check_record;

@@ -1,0 +1,5 @@
+// Tests of the cover and of ratios.
+#[cfg(test)]
+mod covers;
+#[cfg(test)]
+mod ratios;

@@ -1,0 +1,3 @@
+// Tests of reading, writing and checking records.
+#[cfg(test)]
+mod letters;
