@@ -1,6 +1,6 @@
 mod Products
 pub mod Counting
-pub mod Searching
+pub mod Scanning
 pub mod Choosing
 mod Freeing
 pub mod Bounding

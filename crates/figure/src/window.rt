@@ -2,7 +2,7 @@
 ghost use Rattle.figure.specs.Refusal.{denial};
 ghost use Rattle.figure.specs.Cover.{not-above, Covers, Answered, Free-in-place-only};
 ghost use Rattle.figure.specs.Choice.{Ranks-with-choice, enough-answer, Bounded-by-cover};
-ghost use Rattle.figure.specs.Search.{Beaten, Ruled-out};
+ghost use Rattle.figure.specs.Passing.{Beaten, Ruled-out};
 ghost use mathlib.Core.Path.{_≡_};
 ghost use Prim.Native.Nat.{_<_, _≤_};
 ghost use lib.ListN.{length};

@@ -1,5 +1,5 @@
 use native.Mathlib.Omega.{arith}
-use Rattle.figure.proofs.Searching.{takes, passes-short, passes-beaten, found, ruled-out, short-here}
+use Rattle.figure.proofs.Scanning.{takes, passes-short, passes-beaten, found, ruled-out, short-here}
 use Rattle.figure.proofs.window.lowest_cover.Needs as need
 use Rattle.figure.proofs.window.lowest_cover.Needs.{then-not-is-ruled-out·then-not-is-beaten·then-percent-window, then-not-is-ruled-out·then-not-is-beaten·else-percent-window, else-not-is-ruled-out, else-not-is-ruled-out·by·then-not-is-ruled-out·else-not-is-beaten, else-not-is-ruled-out·by·else-not-is-ruled-out}
 

@@ -1,6 +1,6 @@
 use Prim.Native.Nat.{_≤_}
 use lib.ListN.{length}
-use Rattle.figure.proofs.Searching.{So-far, Short}
+use Rattle.figure.proofs.Scanning.{So-far, Short}
 use Rattle.figure.proofs.window.lowest_cover.Given as given
 
 abbrev pub Inv-loop-place : given.InvT-loop-place

@@ -1,4 +1,4 @@
--- What the search for a cover knows after each figure.
+-- What is known of the cover after each figure.
 use mathlib.Core.Path.{_≡_, refl, sym, ap, _∙_}
 use mathlib.Core.Bool.{Bool, true, false}
 use mathlib.Core.List.{List}
@@ -13,7 +13,7 @@ use Rattle.std.proofs.shelf.Lists.{getD-read}
 use Rattle.std.proofs.shelf.Tests.{true≢false, cases-eq}
 use Rattle.figure.specs.Orders.{Total-order}
 use Rattle.figure.specs.Cover.{not-above, Reaches, Covers}
-use Rattle.figure.specs.Search.{Beaten, Ruled-out}
+use Rattle.figure.specs.Passing.{Beaten, Ruled-out}
 use Rattle.figure.proofs.Counting.{upto-itself, not-above-le, empty-if-none-reaches}
 
 -- the best of the first i figures

@@ -1,4 +1,4 @@
--- The two tests by which the search for a cover passes over a figure.
+-- The two tests by which a figure is passed over on the way to the cover.
 use mathlib.Core.Path.{_≡_}
 use mathlib.Core.Bool.{Bool, false}
 use mathlib.Core.List.{List}
