@@ -1,10 +1,24 @@
 // A record to its bytes.
-ghost use Rattle.record.specs.Writing.{letter-of, fields-from, spelling};
+ghost use Rattle.record.specs.Writing.{letter-of, fields-from, spelled, spelling};
 ghost use Rattle.record.specs.Reading.{reading};
 ghost use Rattle.std.specs.declared.option.Option.the-variants.{Some};
 ghost use mathlib.Core.Path.{_≡_};
 use crate::entry::Record;
 use crate::fields::Fields;
+
+/// The letter, three zero bytes and the fields.
+fn spell(letter: u8, fields: Fields) -> [u8; 32]
+    ensures { λ r. ⌜ r ≡ spelled letter fields ⌝ }
+{
+    let mut bytes = [0; 32];
+    bytes[0] = letter;
+    bytes[4..8].copy_from_slice(&fields.code.to_be_bytes());
+    bytes[8..12].copy_from_slice(&fields.date.to_be_bytes());
+    bytes[12..16].copy_from_slice(&fields.units.to_be_bytes());
+    bytes[16..24].copy_from_slice(&fields.money.to_be_bytes());
+    bytes[24..32].copy_from_slice(&fields.spare.to_be_bytes());
+    bytes
+}
 
 impl Record {
     /// The letter that the record begins with.
@@ -57,44 +71,6 @@ impl Record {
         ensures answer { λ r. ⌜ r ≡ spelling self ⌝ }
         ensures reads_back { λ r. ⌜ reading r ≡ Some self ⌝ }
     {
-        let fields = self.fields();
-        let c = fields.code.to_be_bytes();
-        let d = fields.date.to_be_bytes();
-        let u = fields.units.to_be_bytes();
-        let m = fields.money.to_be_bytes();
-        [
-            self.letter(),
-            0,
-            0,
-            0,
-            c[0],
-            c[1],
-            c[2],
-            c[3],
-            d[0],
-            d[1],
-            d[2],
-            d[3],
-            u[0],
-            u[1],
-            u[2],
-            u[3],
-            m[0],
-            m[1],
-            m[2],
-            m[3],
-            m[4],
-            m[5],
-            m[6],
-            m[7],
-            0,
-            0,
-            0,
-            0,
-            0,
-            0,
-            0,
-            0,
-        ]
+        spell(self.letter(), self.fields())
     }
 }
