@@ -164,7 +164,7 @@ pub impl fmt::Display for ListedRun as ListedRunDisplay {
             ),
             ListedRun::NoRow { prices, cause } => write!(
                 f,
-                "no covering move in {prices} prices: {cause}"
+                "no covering move (prices in its run: {prices}): {cause}"
             ),
         }
     }
