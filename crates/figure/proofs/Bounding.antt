@@ -1,6 +1,6 @@
 -- Enough of a window is not above a figure exactly when its cover is not.
 use mathlib.Core.Path.{_≡_, refl, sym, ap, subst, _∙_}
-use mathlib.Core.Bool.{Bool, true, false}
+use mathlib.Core.Bool.{Bool, true}
 use mathlib.Core.List.{List, [], _∷_}
 use mathlib.Core.Logic.{⊎-elim}
 use Prim.Native.Nat.{ℕ, _*_, _≤_, _<_}
@@ -67,10 +67,10 @@ module _ {F : Type 0} {upto : F → F → Bool} (o : Total-order upto) (window :
     bounded-by-cover = bounded-by (cover-of upto window percent) (lowest-of-is o (covering upto window percent))
 
     -- both clauses of the call that asks whether enough is not above s, past its refusals
-    pub enough-answers : denial percent (length window) ≡ None → (count : ℕ) → count ≡ not-above upto window s → (Ok (leb (percent * length window) (100 * count)) ≡ enough-answer upto window percent s) × Bounded-by-cover upto window percent s (Ok (leb (percent * length window) (100 * count)))
+    pub enough-answers : None ≡ denial percent (length window) → (count : ℕ) → count ≡ not-above upto window s → (Ok (leb (percent * length window) (100 * count)) ≡ enough-answer upto window percent s) × Bounded-by-cover upto window percent s (Ok (leb (percent * length window) (100 * count)))
     enough-answers allowed count counted =
         let test : ℕ → Bool = λ n. leb (percent * length window) (100 * n) in
         let tested : test count ≡ enough-upto upto window percent s = ap test counted in (
-          ap {B = Result Bool FigureFault} Ok tested ∙ sym (ap (λ due. unless due (enough-upto upto window percent s)) allowed),
+          ap {B = Result Bool FigureFault} Ok tested ∙ ap (λ due. unless due (enough-upto upto window percent s)) allowed,
           subst (λ (b : Bool). Bounded-by-cover upto window percent s (Ok b)) (sym tested) bounded-by-cover,
         )

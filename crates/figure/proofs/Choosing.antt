@@ -1,9 +1,9 @@
 -- Any answer of the cover's call shares rank and count with the chosen figure.
 use mathlib.Core.Path.{_≡_, refl, sym, ap, subst}
-use mathlib.Core.Bool.{Bool, true, false}
+use mathlib.Core.Bool.{Bool, true}
 use mathlib.Core.List.{List, [], _∷_}
 use mathlib.Core.Logic.{⊎-elim}
-use Prim.Native.Nat.{ℕ, suc, _≤_, _<_}
+use Prim.Native.Nat.{ℕ, suc, _<_}
 use native.Mathlib.Omega.{arith}
 use lib.ListN.{length, getD}
 use Rattle.std.specs.Options.{Cases}
@@ -13,7 +13,7 @@ use Rattle.std.specs.declared.option.Option.the-variants.{Some, None}
 use Rattle.std.proofs.shelf.Elements.{all-weaker, all-has, all-getD, all-kept-by, all-has-itself, kept-by-passes}
 use Rattle.std.proofs.shelf.Lists.{nil-from-length}
 use Rattle.std.proofs.shelf.Tests.{cases-bool, both-ways, cond-true, cond-false, cond-both, leb-true, le-leb, and-from}
-use Rattle.figure.specs.Orders.{Total-order, same-rank}
+use Rattle.figure.specs.Orders.{Total-order}
 use Rattle.figure.specs.Cover.{not-above, Reaches, Covers}
 use Rattle.figure.specs.Choice.{enough-upto, lower, lowest-of, covering, cover-of, Ranks-with}
 use Rattle.figure.proofs.Counting.{upto-itself, not-above-le}

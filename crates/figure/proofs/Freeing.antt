@@ -2,7 +2,7 @@
 use mathlib.Core.Path.{_≡_, sym, _∙_}
 use mathlib.Core.Bool.{Bool, true}
 use mathlib.Core.List.{List}
-use Prim.Native.Nat.{ℕ, _≤_, _<_}
+use Prim.Native.Nat.{ℕ, _<_}
 use native.Mathlib.Omega.{arith}
 use lib.ListN.{length, getD}
 use Rattle.std.specs.Options.{Cases}
@@ -12,7 +12,7 @@ use Rattle.std.specs.declared.result.Result.the-variants.{Ok}
 use Rattle.std.proofs.shelf.Tests.{and-from, and-parts}
 use Rattle.figure.specs.Orders.{Total-order}
 use Rattle.figure.specs.Refusal.{denial}
-use Rattle.figure.specs.Cover.{not-above, Reaches, Covers, Answered, Same-but-place, Free-in-place-only}
+use Rattle.figure.specs.Cover.{not-above, Covers, Answered, Same-but-place, Free-in-place-only}
 use Rattle.figure.specs.Choice.{Ranks-with-choice}
 use Rattle.figure.proofs.Counting.{not-above-le}
 use Rattle.figure.proofs.Choosing.{a-figure, answer-ranks-with-choice, none-chosen}
@@ -40,10 +40,10 @@ module _ {F : Type 0} {upto : F → F → Bool} (o : Total-order upto) (window :
   }
 
   -- the three clauses of the cover's call, past its refusals
-  pub answers : denial percent (length window) ≡ None → (r : Option (ℕ × ℕ)) → Cases r (length window ≡ 0) (λ b. Covers upto window percent (b .0) (b .1)) → Answered upto window percent (Ok r) × Free-in-place-only upto window percent (Ok r) × Ranks-with-choice upto window percent (Ok r)
-  answers allowed None empty = ((allowed, empty), λ place count q. omega (arith, q .within), none-chosen upto window percent empty)
+  pub answers : None ≡ denial percent (length window) → (r : Option (ℕ × ℕ)) → Cases r (length window ≡ 0) (λ b. Covers upto window percent (b .0) (b .1)) → Answered upto window percent (Ok r) × Free-in-place-only upto window percent (Ok r) × Ranks-with-choice upto window percent (Ok r)
+  answers allowed None empty = ((sym allowed, empty), λ place count q. omega (arith, q .within), none-chosen upto window percent empty)
   answers allowed (Some (place, count)) p = (
-    (allowed, p),
+    (sym allowed, p),
     λ other n. (
       λ q. (q .within, others-alike (place, count) (other, n) (a-figure window (omega (arith, p .within))) p q),
       alike-answers (place, count) (other, n) p,

@@ -1,13 +1,11 @@
 -- Well-formed bytes are the spelling of what they say.
 use mathlib.Core.Path.{_≡_, refl, sym, ap, subst, _∙_}
-use mathlib.Core.Bool.{Bool, true, cond, _&&_}
+use mathlib.Core.Bool.{true, cond, _&&_}
 use mathlib.Core.List.{List, [], _∷_, _++_}
-use Prim.Native.Nat.{ℕ, zero, suc, _+_, _*_, _^_, _/_, _%_, _<_, _≤_}
+use Prim.Native.Nat.{ℕ, zero, suc, _+_, _*_, _^_, _/_, _%_, _<_}
 use native.Mathlib.Omega.{arith}
-use native.Mathlib.Numerals.{add-one}
 use lib.Dec.{eqb}
 use lib.ListN.{length, getD, drop}
-use lib.Seq.{drop-cons}
 use Rattle.std.specs.Options.{Cases}
 use Rattle.std.specs.shelf.Lists.{All}
 use Rattle.std.specs.declared.option.Option.{Option}
@@ -18,7 +16,7 @@ use Rattle.record.specs.declared.fields.Fields.{Fields}
 use Rattle.record.specs.declared.entry.Record.{Record}
 use Rattle.record.specs.declared.entry.Record.the-variants.{Price, Listing, Opening, Bought, Sold, Strike}
 use Rattle.record.specs.Layout.{four-at, eight-at, fields-at, four, eight}
-use Rattle.record.specs.Writing.{letter-of, with-fields, fields-from, spelled, spelling}
+use Rattle.record.specs.Writing.{letter-of, with-fields, fields-from, spelled}
 use Rattle.record.specs.Reading.{all-zero, unused, by-letter, reading, Only-spelling}
 
 -- n elements of a list, one by one, from a place on

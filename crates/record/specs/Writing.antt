@@ -1,5 +1,5 @@
 -- The 32 bytes of a record: its letter, three zero bytes and its fields, those that the letter does not use zero.
-use mathlib.Core.List.{List, [], _∷_, _++_}
+use mathlib.Core.List.{List, _∷_, _++_}
 use Prim.Native.Nat.{ℕ}
 use Rattle.record.specs.declared.fields.Fields.{Fields}
 use Rattle.record.specs.declared.entry.Record.{Record}

@@ -33,10 +33,11 @@ move-at [] k h = absurd (omega (arith, h))
 move-at (p ∷ ps) k h = move-from p ps k (omega (arith, h)) ∙ ap (λ (n : ℕ). move (getD (p ∷ ps) k 0) (getD (p ∷ ps) n 0)) (sym (add-one k))
 
 -- one ratio more
-pub ratios-more : (ps : List ℕ) (rs : List Ratio) (x : Ratio) (k : ℕ) → k + 1 < length ps → x .numerator ≡ (getD ps (k + 1) 0 - getD ps k 0) + (getD ps k 0 - getD ps (k + 1) 0) → x .denominator ≡ getD ps k 0 → map parts rs ≡ take k (moves ps) → map parts (rs ++ x ∷ []) ≡ take (k + 1) (moves ps)
-ratios-more ps rs x k h far from so =
+pub ratios-more : (ps : List ℕ) (rs after : List Ratio) (x : Ratio) (k : ℕ) → k + 1 < length ps → x .numerator ≡ (getD ps (k + 1) 0 - getD ps k 0) + (getD ps k 0 - getD ps (k + 1) 0) → x .denominator ≡ getD ps k 0 → map parts rs ≡ take k (moves ps) → after ≡ rs ++ x ∷ [] → map parts after ≡ take (k + 1) (moves ps)
+ratios-more ps rs after x k h far from so push =
     let m : parts x ≡ move (getD ps k 0) (getD ps (k + 1) 0) = cc in
-    map-append parts rs (x ∷ [])
+    ap (map parts) push
+    ∙ map-append parts rs (x ∷ [])
     ∙ ap (λ (l : List Move). l ++ parts x ∷ []) so
     ∙ ap (λ (n : Move). take k (moves ps) ++ n ∷ []) (m ∙ sym (move-at ps k h))
     ∙ sym (take-more (moves ps) k (0, 1) (omega (arith, length-moves ps)))

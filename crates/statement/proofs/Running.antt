@@ -1,14 +1,16 @@
--- One turn of the loops over a run of prices.
-use mathlib.Core.Path.{_≡_, refl, sym, ap, _∙_}
+-- One turn of the loops over a run of prices, and what a listing makes of it.
+use mathlib.Core.Path.{_≡_, sym, ap, subst, _∙_}
 use mathlib.Core.List.{List, [], _∷_, _++_}
 use Prim.Native.Nat.{ℕ, _+_, _<_}
-use lib.Dec.{eqb}
 use lib.ListN.{length, getD, take, drop}
-use Rattle.std.specs.declared.option.Option.{Option}
-use Rattle.std.specs.declared.option.Option.the-variants.{Some}
-use Rattle.std.proofs.shelf.Lists.{at-drop-more, map-more}
+use Rattle.std.specs.declared.option.Option.the-variants.{Some, None}
+use Rattle.std.specs.declared.result.Result.{Result}
+use Rattle.std.proofs.shelf.Lists.{at-drop-more, length-map, map-more}
 use Rattle.std.proofs.shelf.Tests.{cond-true, cond-false, eq-eqb, ne-eqb}
+use Rattle.statement.specs.declared.moves.CoveringMove.{CoveringMove}
+use Rattle.statement.specs.declared.moves.NoMove.{NoMove}
 use Rattle.statement.specs.declared.runs.Quote.{Quote}
+use Rattle.statement.specs.Moves.{Covering-move}
 use Rattle.statement.specs.Runs.{other-issue, prices}
 
 module _ (run : List Quote) (i : ℕ) (d : Quote) (within : i < length run) where
@@ -20,3 +22,11 @@ module _ (run : List Quote) (i : ℕ) (d : Quote) (within : i < length run) wher
 
   pub prices-more : (so after : List ℕ) → so ≡ prices (take i run) → after ≡ so ++ getD run i d .price ∷ [] → after ≡ prices (take (i + 1) run)
   prices-more so after e push = push ∙ ap (λ (l : List ℕ). l ++ getD run i d .price ∷ []) e ∙ sym (map-more (λ (q : Quote). q .price) run i d within)
+
+-- a run of one issue, by its prices alone
+pub listed : (run : List Quote) (code count : ℕ) (ps : List ℕ) (r : Result CoveringMove NoMove) → None ≡ other-issue code run → ps ≡ prices run → count ≡ length ps → Covering-move ps r → (other-issue code run ≡ None) × (count ≡ length run) × Covering-move (prices run) r
+listed run code count ps r none same size move = (
+  sym none,
+  size ∙ ap length same ∙ length-map run (λ (q : Quote). q .price),
+  subst (λ (l : List ℕ). Covering-move l r) same move,
+)

@@ -10,7 +10,6 @@ use Rattle.std.specs.declared.result.Result.{Result}
 use Rattle.std.specs.declared.result.Result.the-variants.{Ok, Err}
 use Rattle.std.specs.declared.option.Option.the-variants.{Some}
 use Rattle.figure.specs.declared.kinds.Ratio.{Ratio}
-use Rattle.figure.specs.declared.fault.FigureFault.{FigureFault}
 use Rattle.figure.specs.Orders.{ratio-upto}
 use Rattle.figure.specs.Refusal.{denial}
 use Rattle.figure.specs.Cover.{Covers}

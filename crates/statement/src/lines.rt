@@ -9,6 +9,7 @@ use crate::money::Percentage;
 use crate::money::PercentageDisplay;
 use crate::moves::CoveringMove;
 use crate::moves::NoMove;
+use crate::runs::ListedRun;
 use figure::FigureFault;
 use figure::Ratio;
 use record::Record;
@@ -100,22 +101,6 @@ pub impl fmt::Display for Malformed as MalformedDisplay {
             write!(f, "refusal 10: a malformed record")
         }
     }
-}
-
-/// What becomes of the run of prices before a listing.
-#[derive(Clone, Copy)]
-pub enum ListedRun {
-    Row {
-        prices: usize,
-        covering: CoveringMove,
-    },
-    OtherIssue {
-        code: u32,
-    },
-    NoRow {
-        prices: usize,
-        cause: NoMove,
-    },
 }
 
 /// A ratio in hundredths of a percent, rounded to the nearest, a half up.

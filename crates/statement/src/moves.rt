@@ -2,11 +2,7 @@
 ghost use Rattle.statement.specs.Moves.{Ratios, Covering-move};
 ghost use Rattle.statement.specs.declared.moves.NoMove.the-variants.{Memory, Cover};
 ghost use mathlib.Core.Path.{_≡_};
-ghost use mathlib.Core.List.{map};
-ghost use lib.ListN.{length};
-ghost use Prim.Native.Nat.{ℕ, _+_, _<_};
-ghost use Rattle.std.specs.Of.Vec.{vec-items};
-ghost use Rattle.std.specs.Results.{Cases};
+ghost use Prim.Native.Nat.{_+_, _<_};
 use figure::FigureFault;
 use figure::Ratio;
 use figure::RatioFigure;

@@ -1,9 +1,10 @@
 // A run of price records, and the row that a listing makes of it.
-ghost use Rattle.statement.specs.Runs.{other-issue, prices};
+ghost use Rattle.statement.specs.Runs.{other-issue, prices, Listed};
 ghost use mathlib.Core.Path.{_≡_};
 ghost use Rattle.std.specs.Of.Vec.{vec-items};
 ghost use Rattle.std.specs.Vec.{made};
-use crate::lines::ListedRun;
+use crate::moves::CoveringMove;
+use crate::moves::NoMove;
 use crate::moves::covering_move;
 use std::alloc::AllocError;
 use std::alloc::Global;
@@ -13,6 +14,22 @@ use std::alloc::Global;
 pub struct Quote {
     pub code: u32,
     pub price: u32,
+}
+
+/// What a listing makes of the run of prices before it.
+#[derive(Clone, Copy)]
+pub enum ListedRun {
+    Row {
+        prices: usize,
+        covering: CoveringMove,
+    },
+    OtherIssue {
+        code: u32,
+    },
+    NoRow {
+        prices: usize,
+        cause: NoMove,
+    },
 }
 
 /// The first code in the run that is not the given one.
@@ -39,7 +56,9 @@ fn prices_of(heap: Global, run: &[Quote]) -> Result<Vec<u32>, AllocError>
 }
 
 /// What the run before a listing of this code makes.
-pub fn listed_run(heap: Global, run: &[Quote], code: u32) -> Result<ListedRun, AllocError> {
+pub fn listed_run(heap: Global, run: &[Quote], code: u32) -> Result<ListedRun, AllocError>
+    ensures { λ r. ⌜ made r (Listed (now (run .entry)) code) ⌝ }
+{
     if let Some(code) = other_issue(run, code) {
         return Ok(ListedRun::OtherIssue { code });
     }
