@@ -1,4 +1,4 @@
-/* The check of one record of a day file, for C hosts. Link libjaswirku's record library (rt staticlib record). */
+/* The check of one record of a day file, for C hosts. Link the library that `rt staticlib record` makes. */
 #ifndef JASWIRKU_RECORD_H
 #define JASWIRKU_RECORD_H
 

@@ -29,8 +29,8 @@ all-from-kept {X} p P (x ∷ xs) a =
     (cases-bool (p x))
 
 -- a lowest figure of ys, if there is any
-abbrev pub Lowest : {F : Type 0} → (F → F → Bool) → List F → Option F → Type 0
-Lowest upto ys r = Cases r (ys ≡ []) (λ y. Has ys y × All (λ z. upto y z ≡ true) ys)
+abbrev pub Is-lowest : {F : Type 0} → (F → F → Bool) → List F → Option F → Type 0
+Is-lowest upto ys r = Cases r (ys ≡ []) (λ y. Has ys y × All (λ z. upto y z ≡ true) ys)
 
 -- some figure of a window that is not empty
 pub a-figure : {F : Type 0} (xs : List F) → 0 < length xs → F
@@ -38,14 +38,14 @@ a-figure [] h = absurd (omega (arith, h))
 a-figure (x ∷ xs) h = x
 
 module _ {F : Type 0} {upto : F → F → Bool} (o : Total-order upto) where
-  lower-lowest : (x : F) (xs : List F) (r : Option F) → Lowest upto xs r → Lowest upto (x ∷ xs) (lower upto x r)
+  lower-lowest : (x : F) (xs : List F) (r : Option F) → Is-lowest upto xs r → Is-lowest upto (x ∷ xs) (lower upto x r)
   lower-lowest x xs None low = ((0, omega arith, λ d. refl), (upto-itself o x, subst (λ (l : List F). All (λ z. upto x z ≡ true) l) (sym low) tt))
   lower-lowest x xs (Some y) low =
       cond-both (upto x y) x y (λ v. Has (x ∷ xs) v × All (λ z. upto v z ≡ true) (x ∷ xs))
       (λ e. ((0, omega arith, λ d. refl), (upto-itself o x, all-weaker (λ z. upto y z ≡ true) (λ z. upto x z ≡ true) (λ z h. o .transitive x y z e h) xs (low .1))))
       (λ e. ((suc (low .0 .0), omega (arith, low .0 .1), low .0 .2), (o .any-two-compare x y e, low .1)))
 
-  pub lowest-of-is : (ys : List F) → Lowest upto ys (lowest-of upto ys)
+  pub lowest-of-is : (ys : List F) → Is-lowest upto ys (lowest-of upto ys)
   lowest-of-is [] = refl
   lowest-of-is (x ∷ xs) = lower-lowest x xs (lowest-of upto xs) (lowest-of-is xs)
 
@@ -66,7 +66,7 @@ module _ {F : Type 0} {upto : F → F → Bool} (o : Total-order upto) where
     at-place P a d =
         all-getD (λ z. enough-upto upto window percent z ≡ true → P z) window place d (cov .within) (all-from-kept (enough-upto upto window percent) P window a) (passes d)
 
-    both-ways-not-above : (y : F) → Lowest upto (covering upto window percent) (Some y) → (d : F) → (upto (getD window place d) y ≡ true) × (upto y (getD window place d) ≡ true)
+    both-ways-not-above : (y : F) → Is-lowest upto (covering upto window percent) (Some y) → (d : F) → (upto (getD window place d) y ≡ true) × (upto y (getD window place d) ≡ true)
     both-ways-not-above y low d =
         let stands = chosen-stands window percent y (low .0) in
         let here = stands .0 in
@@ -74,16 +74,16 @@ module _ {F : Type 0} {upto : F → F → Bool} (o : Total-order upto) where
         let below : upto (getD window place d) (getD window (here .0) d) ≡ true = cov .lowest (here .0) d (here .1) (omega (arith, stands .1, ap (not-above upto window) at)) in
         (rw at at below, at-place (λ z. upto y z ≡ true) (low .1) d)
 
-    ranks-with : (r : Option F) → Lowest upto (covering upto window percent) r → Cases r ⊥ (Ranks-with upto window place count)
-    ranks-with None low = at-place (λ _. ⊥) (subst (λ (l : List F). All (λ _. ⊥) l) (sym low) tt) (a-figure window (omega (arith, cov .within)))
-    ranks-with (Some y) low =
+    ranks-with-lowest : (r : Option F) → Is-lowest upto (covering upto window percent) r → Cases r ⊥ (Ranks-with upto window place count)
+    ranks-with-lowest None low = at-place (λ _. ⊥) (subst (λ (l : List F). All (λ _. ⊥) l) (sym low) tt) (a-figure window (omega (arith, cov .within)))
+    ranks-with-lowest (Some y) low =
         let both = both-ways-not-above y low y in (
           λ d. let b = both-ways-not-above y low d in and-from _ _ (b .0) (b .1),
           omega (arith, cov .counted y, not-above-le o window (getD window place y) y (both .0), not-above-le o window y (getD window place y) (both .1)),
         )
 
     pub answer-ranks-with-choice : Cases (cover-of upto window percent) ⊥ (Ranks-with upto window place count)
-    answer-ranks-with-choice = ranks-with (cover-of upto window percent) (lowest-of-is (covering upto window percent))
+    answer-ranks-with-choice = ranks-with-lowest (cover-of upto window percent) (lowest-of-is (covering upto window percent))
 
 -- nothing is chosen of an empty window
 pub none-chosen : {F : Type 0} (upto : F → F → Bool) (window : List F) (percent : ℕ) → length window ≡ 0 → cover-of upto window percent ≡ None

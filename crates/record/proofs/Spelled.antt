@@ -17,7 +17,7 @@ use Rattle.record.specs.declared.entry.Record.{Record}
 use Rattle.record.specs.declared.entry.Record.the-variants.{Price, Listing, Opening, Bought, Sold, Strike}
 use Rattle.record.specs.Layout.{four-at, eight-at, fields-at, four, eight}
 use Rattle.record.specs.Writing.{letter-of, with-fields, fields-from, spelled}
-use Rattle.record.specs.Reading.{all-zero, unused, by-letter, reading, Only-spelling}
+use Rattle.record.specs.WellFormed.{all-zero, unused, by-letter, reading, Only-spelling}
 
 -- n elements of a list, one by one, from a place on
 abbrev listed : List ℕ → ℕ → ℕ → List ℕ

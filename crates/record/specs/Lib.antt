@@ -1,3 +1,3 @@
 pub mod Layout
 pub mod Writing
-pub mod Reading
+pub mod WellFormed

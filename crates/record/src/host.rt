@@ -1,5 +1,5 @@
 // The check of a record for a C host.
-ghost use Rattle.record.specs.Reading.{reading};
+ghost use Rattle.record.specs.WellFormed.{reading};
 ghost use Rattle.std.specs.Options.{isSome};
 ghost use mathlib.Core.Path.{_≡_};
 ghost use mathlib.Core.Bool.{cond};

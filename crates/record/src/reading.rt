@@ -1,5 +1,5 @@
 // Bytes to a record.
-ghost use Rattle.record.specs.Reading.{by-letter, reading, Only-spelling};
+ghost use Rattle.record.specs.WellFormed.{by-letter, reading, Only-spelling};
 ghost use mathlib.Core.Path.{_≡_};
 use crate::entry::Record;
 use crate::fields::Fields;

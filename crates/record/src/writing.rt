@@ -1,6 +1,6 @@
 // A record to its bytes.
 ghost use Rattle.record.specs.Writing.{letter-of, fields-from, spelled, spelling};
-ghost use Rattle.record.specs.Reading.{reading};
+ghost use Rattle.record.specs.WellFormed.{reading};
 ghost use Rattle.std.specs.declared.option.Option.the-variants.{Some};
 ghost use mathlib.Core.Path.{_≡_};
 use crate::entry::Record;

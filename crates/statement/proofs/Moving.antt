@@ -12,7 +12,7 @@ use Rattle.std.proofs.shelf.Lists.{length-map, map-append, take-more, take-all}
 use Rattle.figure.specs.declared.kinds.Ratio.{Ratio}
 use Rattle.figure.specs.Orders.{ratio-upto}
 use Rattle.figure.specs.Cover.{Answered}
-use Rattle.statement.specs.Moves.{Move, move, moves, moves-from, parts}
+use Rattle.statement.specs.Movement.{Move, move-between, moves, moves-from, parts}
 
 length-from : (p : ℕ) (ps : List ℕ) → length (moves-from p ps) ≡ length ps
 length-from p [] = refl
@@ -23,19 +23,19 @@ pub length-moves : (ps : List ℕ) → length (moves ps) ≡ length ps - 1
 length-moves [] = refl
 length-moves (p ∷ ps) = omega (arith, length-from p ps)
 
-move-from : (p : ℕ) (ps : List ℕ) (k : ℕ) → k < length ps → getD (moves-from p ps) k (0, 1) ≡ move (getD (p ∷ ps) k 0) (getD ps k 0)
+move-from : (p : ℕ) (ps : List ℕ) (k : ℕ) → k < length ps → getD (moves-from p ps) k (0, 1) ≡ move-between (getD (p ∷ ps) k 0) (getD ps k 0)
 move-from p [] k h = absurd (omega (arith, h))
 move-from p (q ∷ qs) zero h = refl
 move-from p (q ∷ qs) (suc k) h = move-from q qs k (omega (arith, h))
 
-move-at : (ps : List ℕ) (k : ℕ) → k + 1 < length ps → getD (moves ps) k (0, 1) ≡ move (getD ps k 0) (getD ps (k + 1) 0)
+move-at : (ps : List ℕ) (k : ℕ) → k + 1 < length ps → getD (moves ps) k (0, 1) ≡ move-between (getD ps k 0) (getD ps (k + 1) 0)
 move-at [] k h = absurd (omega (arith, h))
-move-at (p ∷ ps) k h = move-from p ps k (omega (arith, h)) ∙ ap (λ (n : ℕ). move (getD (p ∷ ps) k 0) (getD (p ∷ ps) n 0)) (sym (add-one k))
+move-at (p ∷ ps) k h = move-from p ps k (omega (arith, h)) ∙ ap (λ (n : ℕ). move-between (getD (p ∷ ps) k 0) (getD (p ∷ ps) n 0)) (sym (add-one k))
 
 -- one ratio more
 pub ratios-more : (ps : List ℕ) (rs after : List Ratio) (x : Ratio) (k : ℕ) → k + 1 < length ps → x .numerator ≡ (getD ps (k + 1) 0 - getD ps k 0) + (getD ps k 0 - getD ps (k + 1) 0) → x .denominator ≡ getD ps k 0 → map parts rs ≡ take k (moves ps) → after ≡ rs ++ x ∷ [] → map parts after ≡ take (k + 1) (moves ps)
 ratios-more ps rs after x k h far from so push =
-    let m : parts x ≡ move (getD ps k 0) (getD ps (k + 1) 0) = cc in
+    let m : parts x ≡ move-between (getD ps k 0) (getD ps (k + 1) 0) = cc in
     ap (map parts) push
     ∙ map-append parts rs (x ∷ [])
     ∙ ap (λ (l : List Move). l ++ parts x ∷ []) so

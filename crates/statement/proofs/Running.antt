@@ -10,7 +10,7 @@ use Rattle.std.proofs.shelf.Tests.{cond-true, cond-false, eq-eqb, ne-eqb}
 use Rattle.statement.specs.declared.moves.CoveringMove.{CoveringMove}
 use Rattle.statement.specs.declared.moves.NoMove.{NoMove}
 use Rattle.statement.specs.declared.runs.Quote.{Quote}
-use Rattle.statement.specs.Moves.{Covering-move}
+use Rattle.statement.specs.Movement.{Covering-move}
 use Rattle.statement.specs.Runs.{other-issue, prices}
 
 module _ (run : List Quote) (i : ℕ) (d : Quote) (within : i < length run) where
@@ -24,8 +24,8 @@ module _ (run : List Quote) (i : ℕ) (d : Quote) (within : i < length run) wher
   prices-more so after e push = push ∙ ap (λ (l : List ℕ). l ++ getD run i d .price ∷ []) e ∙ sym (map-more (λ (q : Quote). q .price) run i d within)
 
 -- a run of one issue, by its prices alone
-pub listed : (run : List Quote) (code count : ℕ) (ps : List ℕ) (r : Result CoveringMove NoMove) → None ≡ other-issue code run → ps ≡ prices run → count ≡ length ps → Covering-move ps r → (other-issue code run ≡ None) × (count ≡ length run) × Covering-move (prices run) r
-listed run code count ps r none same size move = (
+pub listed-by-prices : (run : List Quote) (code count : ℕ) (ps : List ℕ) (r : Result CoveringMove NoMove) → None ≡ other-issue code run → ps ≡ prices run → count ≡ length ps → Covering-move ps r → (other-issue code run ≡ None) × (count ≡ length run) × Covering-move (prices run) r
+listed-by-prices run code count ps r none same size move = (
   sym none,
   size ∙ ap length same ∙ length-map run (λ (q : Quote). q .price),
   subst (λ (l : List ℕ). Covering-move l r) same move,

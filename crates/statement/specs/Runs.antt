@@ -11,7 +11,7 @@ use Rattle.std.specs.declared.result.Result.the-variants.{Ok, Err}
 use Rattle.statement.specs.declared.runs.Quote.{Quote}
 use Rattle.statement.specs.declared.runs.ListedRun.{ListedRun}
 use Rattle.statement.specs.declared.runs.ListedRun.the-variants.{Row, OtherIssue, NoRow}
-use Rattle.statement.specs.Moves.{Covering-move}
+use Rattle.statement.specs.Movement.{Covering-move}
 
 -- the first code other than the given one
 abbrev pub other-issue : ℕ → List Quote → Option ℕ

@@ -1,5 +1,5 @@
 // The covering move of a run of prices.
-ghost use Rattle.statement.specs.Moves.{Ratios, Covering-move};
+ghost use Rattle.statement.specs.Movement.{Ratios-of, Covering-move};
 ghost use Rattle.statement.specs.declared.moves.NoMove.the-variants.{Memory, Cover};
 ghost use mathlib.Core.Path.{_≡_};
 ghost use Prim.Native.Nat.{_+_, _<_};
@@ -60,7 +60,7 @@ pub impl<T: Drop> From<Refused<T>> for NoMove as NoMoveFromRefused {
 
 /// The ratio of each move from one price to the next.
 fn ratios(heap: Global, prices: &[u32]) -> Result<Vec<Ratio>, NoMove>
-    ensures { λ r. ⌜ Ratios (now (prices .entry)) r ⌝ }
+    ensures { λ r. ⌜ Ratios-of (now (prices .entry)) r ⌝ }
 {
     let mut ratios = Vec::new(heap);
     for i in 0..prices.len().saturating_sub(1) {

@@ -2,7 +2,7 @@ use mathlib.Core.Path.{ap, sym, _∙_}
 use mathlib.Core.List.{map}
 use Rattle.std.proofs.shelf.Results.{err-from-errBy}
 use Rattle.figure.specs.Refusal.{denial}
-use Rattle.statement.specs.Moves.{parts}
+use Rattle.statement.specs.Movement.{parts}
 use Rattle.statement.proofs.Moving.{ratios-count, none-too-few}
 use Rattle.statement.proofs.moves.covering_move.Needs as need
 

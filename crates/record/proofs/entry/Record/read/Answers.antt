@@ -4,7 +4,7 @@ use lib.ListN.{length, getD}
 use mir.Facts.{fits-lt-pow}
 use Rattle.std.proofs.shelf.Lists.{take-rest, length-drop}
 use Rattle.record.specs.Layout.{fields-at}
-use Rattle.record.specs.Reading.{by-letter}
+use Rattle.record.specs.WellFormed.{by-letter}
 use Rattle.record.proofs.Spelled.{fields-behind, reads}
 use Rattle.record.proofs.entry.Record.read.Needs as need
 

@@ -21,13 +21,13 @@ use Rattle.statement.specs.declared.moves.NoMove.the-variants.{TooFew, ZeroPri
 abbrev pub Move : Type 0
 Move = ℕ × ℕ
 
-abbrev pub move : ℕ → ℕ → Move
-move earlier later = ((later - earlier) + (earlier - later), earlier)
+abbrev pub move-between : ℕ → ℕ → Move
+move-between earlier later = ((later - earlier) + (earlier - later), earlier)
 
 -- the moves of neighbouring prices
 abbrev pub moves-from : ℕ → List ℕ → List Move
 moves-from p [] = []
-moves-from p (q ∷ qs) = move p q ∷ moves-from q qs
+moves-from p (q ∷ qs) = move-between p q ∷ moves-from q qs
 
 abbrev pub moves : List ℕ → List Move
 moves [] = []
@@ -42,12 +42,12 @@ abbrev pub Zero-inside : List ℕ → Type 0
 Zero-inside prices = (k : ℕ) × (k + 1 < length prices) × (getD prices k 0 ≡ 0)
 
 -- the ratios of a run of prices; want of memory can come of any run
-abbrev pub Ratios : List ℕ → Result (Vec Ratio Global) NoMove → Type 0
-Ratios prices (Ok v) = map parts (vec-items v) ≡ moves prices
-Ratios prices (Err TooFew) = ⊥
-Ratios prices (Err ZeroPrice) = Zero-inside prices
-Ratios prices (Err (Cover fault)) = ⊥
-Ratios prices (Err Memory) = Unit {0}
+abbrev pub Ratios-of : List ℕ → Result (Vec Ratio Global) NoMove → Type 0
+Ratios-of prices (Ok v) = map parts (vec-items v) ≡ moves prices
+Ratios-of prices (Err TooFew) = ⊥
+Ratios-of prices (Err ZeroPrice) = Zero-inside prices
+Ratios-of prices (Err (Cover fault)) = ⊥
+Ratios-of prices (Err Memory) = Unit {0}
 
 -- the covering move of a run of prices; want of memory can come of any run
 abbrev pub Covering-move : List ℕ → Result CoveringMove NoMove → Type 0
