@@ -1,40 +1,36 @@
 // The lines that the program prints.
 ghost use Prim.Native.Nat.{_+_, _*_, _/_};
 ghost use mathlib.Core.Path.{_≡_};
-use crate::money::Date;
-use crate::money::DateDisplay;
-use crate::money::Grouped;
-use crate::money::GroupedDisplay;
-use crate::money::Percentage;
-use crate::money::PercentageDisplay;
 use crate::moves::CoveringMove;
 use crate::moves::NoMove;
+use crate::numbers::Date;
+use crate::numbers::DateDisplay;
+use crate::numbers::Grouped;
+use crate::numbers::GroupedDisplay;
+use crate::numbers::Percentage;
+use crate::numbers::PercentageDisplay;
 use crate::runs::ListedRun;
 use figure::FigureFault;
 use figure::Ratio;
 use record::Record;
 use std::fmt;
 
-/// A contract's part of its line.
-#[derive(Clone, Copy)]
-struct Deal {
+/// A contract in words, after what was done.
+fn write_contract<W: fmt::Write>(
+    f: &mut fmt::Formatter<W>,
+    done: &str,
     code: u32,
     settlement: u32,
     quantity: u32,
     money: u64,
-}
-
-pub impl fmt::Display for Deal as DealDisplay {
-    fn fmt<W: fmt::Write>(&self, f: &mut fmt::Formatter<W>) -> fmt::Result {
-        let code = self.code;
-        let quantity = Grouped(self.quantity as u64);
-        let money = Grouped(self.money);
-        let settlement = Date(self.settlement);
-        write!(
-            f,
-            "{quantity} of issue {code} for {money} yen, settling {settlement}"
-        )
-    }
+) -> fmt::Result {
+    let quantity = Grouped(quantity as u64);
+    let money = Grouped(money);
+    let settlement = Date(settlement);
+    write!(
+        f,
+        "{done} {quantity} of issue {code} for {money} yen, settling {settlement}"
+    )
 }
 
 /// A record in words.
@@ -58,29 +54,13 @@ pub impl fmt::Display for InWords as InWordsDisplay {
                 settlement,
                 quantity,
                 money,
-            } => {
-                let deal = Deal {
-                    code,
-                    settlement,
-                    quantity,
-                    money,
-                };
-                write!(f, "bought {deal}")
-            }
+            } => write_contract(f, "bought", code, settlement, quantity, money),
             Record::Sold {
                 code,
                 settlement,
                 quantity,
                 money,
-            } => {
-                let deal = Deal {
-                    code,
-                    settlement,
-                    quantity,
-                    money,
-                };
-                write!(f, "sold {deal}")
-            }
+            } => write_contract(f, "sold", code, settlement, quantity, money),
             Record::Strike => write!(f, "strike the day and serve its notice"),
         }
     }

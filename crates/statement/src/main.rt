@@ -1,7 +1,7 @@
 // Prints a day file for a person: each record in words, and what a listing makes of the prices before it.
 mod lines;
-mod money;
 mod moves;
+mod numbers;
 mod runs;
 
 use lines::InWords;

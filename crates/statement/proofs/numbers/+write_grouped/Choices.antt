@@ -1,4 +1,4 @@
-use Rattle.statement.proofs.money.+write_grouped.Given as given
+use Rattle.statement.proofs.numbers.+write_grouped.Given as given
 
 abbrev pub μ-write-grouped : given.MeasureT-write-grouped
 μ-write-grouped g l = l .n
