@@ -1,5 +1,7 @@
 // Times the cover of windows of 120, 160 and 4,096 figures: `cover_bench times`.
 // With no argument it prints the covers alone, which do not change from run to run.
+#![tactic(auto)]
+
 use figure::{Figure, Ratio, Yen, cover};
 use std::alloc::{AllocError, Global};
 use std::time::Instant;

@@ -1,4 +1,6 @@
 // Figures with a total order, and the cover of a window of them.
+#![tactic(auto)]
+
 mod fault;
 mod kinds;
 mod order;

@@ -44,8 +44,8 @@ impl Figure for Ratio {
 
 /// Whether neither of two figures is above the other.
 pub fn same_rank<F: Figure>(x: &F, y: &F) -> bool
-    ensures answer { result ≡ same_rank upto x.now y.now }
-    ensures ranks_part_the_figures { Equivalence (same_rank upto) }
+    ensures answer { result ≡ same_rank F.upto x.now y.now }
+    ensures ranks_part_the_figures { Equivalence (same_rank F.upto) }
 {
     x.not_above(y) && y.not_above(x)
 }

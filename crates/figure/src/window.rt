@@ -13,7 +13,7 @@ const WINDOW_LIMIT: usize = 4096;
 
 /// How many figures of the window are not above `top`.
 fn count_not_above<F: Figure>(window: &[F], top: &F) -> usize
-    ensures value { result ≡ not_above upto window.now top.now }
+    ensures value { result ≡ not_above F.upto window.now top.now }
     ensures bound { result ≤ length window.now }
 {
     let mut count = 0;
@@ -42,7 +42,7 @@ fn denied(percent: u32, size: usize) -> Option<FigureFault>
 /// Whether the best figure so far is not above `figure`.
 fn is_beaten<F: Figure>(window: &[F], best: Option<(usize, usize)>, figure: &F) -> bool
     requires { IfSome best (λ b. b.0 < length window.now) }
-    ensures { Beaten upto window.now best figure.now result }
+    ensures { Beaten F.upto window.now best figure.now result }
 {
     match best {
         None => false,
@@ -53,7 +53,7 @@ fn is_beaten<F: Figure>(window: &[F], best: Option<(usize, usize)>, figure: &F) 
 /// Whether `figure` is not above the one at `short`, which is known to cover too little.
 fn is_ruled_out<F: Figure>(window: &[F], short: Option<usize>, figure: &F) -> bool
     requires { IfSome short (λ k. k < length window.now) }
-    ensures { RuledOut upto window.now short figure.now result }
+    ensures { RuledOut F.upto window.now short figure.now result }
 {
     match short {
         None => false,
@@ -65,7 +65,7 @@ fn is_ruled_out<F: Figure>(window: &[F], short: Option<usize>, figure: &F) -> bo
 fn lowest_cover<F: Figure>(window: &[F], percent: u32) -> Option<(usize, usize)>
     requires percent { percent ≤ 100 }
     requires size { length window.now ≤ 4096 }
-    ensures { MatchOption result (length window.now ≡ 0) (λ b. Covers upto window.now percent b.0 b.1) }
+    ensures { MatchOption result (length window.now ≡ 0) (λ b. Covers F.upto window.now percent b.0 b.1) }
 {
     let mut best = None;
     // The highest figure so far that covers too little: what is not above it need not be counted.
@@ -87,9 +87,9 @@ fn lowest_cover<F: Figure>(window: &[F], percent: u32) -> Option<(usize, usize)>
 /// of the window not above it, and how many figures are not above it. An empty window has none.
 /// Refuses a percent outside 1 to 100 (27), then a window of more than 4,096 figures (28).
 pub fn cover<F: Figure>(window: &[F], percent: u32) -> Result<Option<(usize, usize)>, FigureFault>
-    ensures answer { Answered upto window.now percent result }
-    ensures free_in_place_only { FreeInPlaceOnly upto window.now percent result }
-    ensures ranks_with_choice { RanksWithChoice upto window.now percent result }
+    ensures answer { Answered F.upto window.now percent result }
+    ensures free_in_place_only { FreeInPlaceOnly F.upto window.now percent result }
+    ensures ranks_with_choice { RanksWithChoice F.upto window.now percent result }
 {
     match denied(percent, window.len()) {
         Some(fault) => Err(fault),
@@ -104,8 +104,8 @@ pub fn enough_not_above<F: Figure>(
     percent: u32,
     figure: &F,
 ) -> Result<bool, FigureFault>
-    ensures answer { result ≡ enough_answer upto window.now percent figure.now }
-    ensures bounded_by_cover { BoundedByCover upto window.now percent figure.now result }
+    ensures answer { result ≡ enough_answer F.upto window.now percent figure.now }
+    ensures bounded_by_cover { BoundedByCover F.upto window.now percent figure.now result }
 {
     match denied(percent, window.len()) {
         Some(fault) => Err(fault),

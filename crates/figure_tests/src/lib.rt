@@ -1,4 +1,6 @@
 // Tests of the cover and of ratios.
+#![tactic(auto)]
+
 #[cfg(test)]
 mod covers;
 #[cfg(test)]

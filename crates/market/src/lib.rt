@@ -1,4 +1,6 @@
 // Where prices come from, and the row of prices that is kept of an issue.
+#![tactic(auto)]
+
 mod covering;
 mod designated;
 mod fault;

@@ -1,4 +1,6 @@
 // Tests of price sources and rows.
+#![tactic(auto)]
+
 #[cfg(test)]
 mod rows;
 #[cfg(test)]

@@ -1,4 +1,6 @@
 // The 32-byte record of a day file: taken apart, made, and checked for a C host.
+#![tactic(auto)]
+
 mod entry;
 mod fields;
 mod host;

@@ -1,3 +1,5 @@
 // Tests of reading, writing and checking records.
+#![tactic(auto)]
+
 #[cfg(test)]
 mod letters;

@@ -1,4 +1,6 @@
 // Prints a day file for a person: each record in words, and what a listing makes of the prices before it.
+#![tactic(auto)]
+
 mod lines;
 mod moves;
 mod numbers;

@@ -7,7 +7,7 @@ use Rattle.market.proofs.making.prices_of.Goals as goal
 
 pub loop-quote-preserved : goal.loop-quote-preserved
 loop-quote-preserved c = (
-  c.push-reserved.ensures.items
+  c.push_reserved.ensures.items
       ∙ ap (λ (l : List ℕ). l ++ (get_or c.args.run.now c.loop-quote.quote-index blank).price ∷ []) c.loop-quote.invariant.0
       ∙ sym (map_more (λ (q : Quote). q.price) c.args.run.now c.loop-quote.quote-index blank c.loop-quote-test.true),
   omega arith,

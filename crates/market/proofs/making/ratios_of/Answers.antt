@@ -4,7 +4,7 @@ use Rattle.market.proofs.making.ratios_of.Goals as goal
 
 pub loop-i-preserved : goal.loop-i-preserved
 loop-i-preserved c = (
-  ratios_more c.args.prices.now (vec_items c.loop-i.ratios) _ c.ratio-between.result c.loop-i.i (omega arith) c.ratio-between.ensures c.loop-i.invariant.0 c.push-reserved.ensures.items,
+  ratios_more c.args.prices.now (vec_items c.loop-i.ratios) _ c.ratio_between.result c.loop-i.i (omega arith) c.ratio_between.ensures c.loop-i.invariant.0 c.push_reserved.ensures.items,
   omega arith,
   omega arith,
 )

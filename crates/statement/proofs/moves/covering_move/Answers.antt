@@ -7,12 +7,12 @@ use Rattle.statement.proofs.moves.covering_move.Goals as goal
 
 pub returns-in-err-cover : goal.returns-in-err-cover
 returns-in-err-cover c =
-    let p = err_from_is_err_and c.from-residual-in-err-cover.result c.from-residual-in-err-cover.ensures.1 in
-    let same = ap (map parts) c.as-slice.ensures.value ∙ c.in-ok-ratios.ensures in
-    let count = ratios_count c.args.prices.now c.as-slice.result.now same in
+    let p = err_from_is_err_and c.from_residual-in-err-cover.result c.from_residual-in-err-cover.ensures.1 in
+    let same = ap (map parts) c.as_slice.ensures.value ∙ c.in-ok-ratios.ensures in
+    let count = ratios_count c.args.prices.now c.as_slice.result.now same in
     rw (p.1, p.2) (ap (denial 99) (sym count) ∙ c.in-err-cover.ensures.answer)
 
 pub returns-in-None : goal.returns-in-None
 returns-in-None c =
-    none_too_few c.args.prices.now c.as-slice.result.now c.in-ok-cover.field-0
-    (ap (map parts) c.as-slice.ensures.value ∙ c.in-ok-ratios.ensures) c.in-None.is c.in-ok-cover.ensures.answer
+    none_too_few c.args.prices.now c.as_slice.result.now c.in-ok-cover.field-0
+    (ap (map parts) c.as_slice.ensures.value ∙ c.in-ok-ratios.ensures) c.in-None.is c.in-ok-cover.ensures.answer

@@ -5,8 +5,8 @@ use Rattle.market.proofs.Codes.{once_removed}
 use Rattle.market.proofs.Designations.{remove_in_place}
 use Rattle.market.proofs.designated.DesignatedList.remove.Goals as goal
 
-pub invariant-of-self : goal.invariant-of-self
-invariant-of-self c =
+pub invariant_of-self : goal.invariant_of-self
+invariant_of-self c =
     let quotes : List Quote = vec_items c.args.self.now.quotes in
     (omega arith, (omega arith, (ap (λ (l : List Quote). once (codes l)) c.remove.ensures.items ∙ once_removed quotes c.in-Some.place c.args.self.now.once, tt)))
 
@@ -14,4 +14,4 @@ pub returns-in-Some : goal.returns-in-Some
 returns-in-Some c =
     let quotes : List Quote = vec_items c.args.self.now.quotes in
     let both = remove_in_place quotes c.args.code c.in-Some.place c.args.self.now.once c.in-Some.ensures in
-    record { answer = both.0; changed-at-the-code-alone = subst (λ (l : List Quote). RemoveLeaves c.args.code quotes l (Ok tt)) (sym c.remove.ensures.items) both.1 }
+    record { answer = both.0; changed_at_the_code_alone = subst (λ (l : List Quote). RemoveLeaves c.args.code quotes l (Ok tt)) (sym c.remove.ensures.items) both.1 }

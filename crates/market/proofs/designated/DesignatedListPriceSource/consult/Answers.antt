@@ -10,4 +10,4 @@ returns-in-Some c =
     let quotes : List Quote = vec_items c.args.self.now.quotes in
     let s = c.in-Some.ensures in
     let read = get_or_read quotes c.in-Some.place c.index.result.now s.within c.index.ensures blank in
-    record { answer = ap (λ (q : Quote). Some q.price) read ∙ sym (standing quotes c.args.code c.in-Some.place s); meaning-stays = refl }
+    record { answer = ap (λ (q : Quote). Some q.price) read ∙ sym (standing quotes c.args.code c.in-Some.place s); meaning_stays = refl }

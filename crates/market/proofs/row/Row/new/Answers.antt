@@ -3,13 +3,13 @@ use Rattle.market.specs.Moves.{moves}
 use Rattle.market.proofs.Sound.{Sound, sound_run}
 use Rattle.market.proofs.row.Row.new.Goals as goal
 
-pub ratios-of-requires : goal.ratios-of-requires
-ratios-of-requires c =
-    let sound = subst (Sound c.args.code) (sym (c.as-slice.ensures.value ∙ c.in-ok-prices.ensures.0)) (sound_run c.args.code c.args.run.now (sym c.in-default.ensures)) in
+pub ratios_of-requires : goal.ratios_of-requires
+ratios_of-requires c =
+    let sound = subst (Sound c.args.code) (sym (c.as_slice.ensures.value ∙ c.in-ok-prices.ensures.0)) (sound_run c.args.code c.args.run.now (sym c.in-default.ensures)) in
     record { count = (omega (arith, sound.count.0), sound.count.1); limits = sound.limits }
 
-pub invariant-of-result : goal.invariant-of-result
-invariant-of-result c =
+pub invariant_of-result : goal.invariant_of-result
+invariant_of-result c =
     let sound = subst (Sound c.args.code) (sym c.in-ok-prices.ensures.0) (sound_run c.args.code c.args.run.now (sym c.in-default.ensures)) in
     let size = c.in-ok-prices.prices.ok.0 in
     let room = c.in-ok-prices.ensures in
@@ -19,7 +19,7 @@ invariant-of-result c =
         (omega (arith, sound.count.0), omega (arith, sound.count.1)),
         (
           (λ k h. sound.limits k (omega (arith, h))),
-          ((λ k h. sound.pace k (omega (arith, h))), (kept.0 ∙ ap moves c.as-slice.ensures.value, ((room.1, kept.1), tt))),
+          ((λ k h. sound.pace k (omega (arith, h))), (kept.0 ∙ ap moves c.as_slice.ensures.value, ((room.1, kept.1), tt))),
         ),
       ),
     )

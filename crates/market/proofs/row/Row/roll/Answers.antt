@@ -13,16 +13,16 @@ slide-requires-2 c =
     let size = row.ratios.ok.0 in
     record { room = (omega arith, omega arith); few = omega (arith, (ratio_counts row.code (vec_items row.prices) (sound_row row) (vec_items row.ratios) row.same).1) }
 
-pub invariant-of-self : goal.invariant-of-self
-invariant-of-self c =
+pub invariant_of-self : goal.invariant_of-self
+invariant_of-self c =
     let row = c.args.self.now in
     let ps : List ℕ = vec_items row.prices in
     let price = c.args.price in
     let passed = faultless (Some (newest ps)) price (sym c.in-ok-test.ensures) in
     let slow : price ≤ 2 * newest ps = ltb-false (2 * newest ps) price passed.1 in
     let sound = subst (Sound row.code) (sym c.slide.ensures.items) (sound_slid row.code ps (sound_row row) price passed.0 slow) in
-    let ratio : parts c.ratio-between-ratio.result ≡ move_between (newest ps) price = c.ratio-between-ratio.ensures ∙ ap (λ (n : ℕ). move_between n price) c.newest.ensures in
-    let same = same_slid row.code ps (sound_row row) price passed.0 slow (vec_items row.ratios) c.ratio-between-ratio.result ratio row.same in
+    let ratio : parts c.ratio_between-ratio.result ≡ move_between (newest ps) price = c.ratio_between-ratio.ensures ∙ ap (λ (n : ℕ). move_between n price) c.newest.ensures in
+    let same = same_slid row.code ps (sound_row row) price passed.0 slow (vec_items row.ratios) c.ratio_between-ratio.result ratio row.same in
     let size = c.slide.new.items.ok.0 in (
       sound.coded,
       (

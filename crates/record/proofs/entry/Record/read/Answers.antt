@@ -16,5 +16,5 @@ returns-in-Some c =
     let one : get_or bytes 1 0 ≡ 0 = omega arith in
     let two : get_or bytes 2 0 ≡ 0 = omega arith in
     let three : get_or bytes 3 0 ≡ 0 = omega arith in
-    let both = reads bytes (λ i. Fits-lt-pow (c.type-inv.bytes i)) size one two three c.by_letter.result (c.by_letter.ensures ∙ ap (by_letter (get_or bytes 0 0)) fields) in
-    record { answer = both.0; only-spelling = both.1 }
+    let both = reads bytes (λ i. Fits-lt-pow (c.type_inv.bytes i)) size one two three c.by_letter.result (c.by_letter.ensures ∙ ap (by_letter (get_or bytes 0 0)) fields) in
+    record { answer = both.0; only_spelling = both.1 }
