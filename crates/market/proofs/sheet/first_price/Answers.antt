@@ -8,4 +8,4 @@ returns-in-Some c =
 
 pub loop-i-preserved : goal.loop-i-preserved
 loop-i-preserved c =
-    sym (record_more c.args.bytes.now c.args.code (length c.args.bytes.now / 32) c.loop-i.i None c.loop-i-test.true c.in-default.ensures) ∙ c.loop-i.invariant
+    sym (record_more c.args.bytes.now c.args.code (length c.args.bytes.now / 32) c.loop-i.i None c.loop-i-test.true c.in_default.ensures) ∙ c.loop-i.invariant

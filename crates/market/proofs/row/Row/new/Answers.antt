@@ -5,15 +5,15 @@ use Rattle.market.proofs.row.Row.new.Goals as goal
 
 pub ratios_of-requires : goal.ratios_of-requires
 ratios_of-requires c =
-    let sound = subst (Sound c.args.code) (sym (c.as_slice.ensures.value ∙ c.in-ok-prices.ensures.0)) (sound_run c.args.code c.args.run.now (sym c.in-default.ensures)) in
+    let sound = subst (Sound c.args.code) (sym (c.as_slice.ensures.value ∙ c.in_ok-prices.ensures.0)) (sound_run c.args.code c.args.run.now (sym c.in_default.ensures)) in
     record { count = (omega (arith, sound.count.0), sound.count.1); limits = sound.limits }
 
 pub invariant_of-result : goal.invariant_of-result
 invariant_of-result c =
-    let sound = subst (Sound c.args.code) (sym c.in-ok-prices.ensures.0) (sound_run c.args.code c.args.run.now (sym c.in-default.ensures)) in
-    let size = c.in-ok-prices.prices.ok.0 in
-    let room = c.in-ok-prices.ensures in
-    let kept = c.in-ok-ratios.ensures in (
+    let sound = subst (Sound c.args.code) (sym c.in_ok-prices.ensures.0) (sound_run c.args.code c.args.run.now (sym c.in_default.ensures)) in
+    let size = c.in_ok-prices.prices.ok.0 in
+    let room = c.in_ok-prices.ensures in
+    let kept = c.in_ok-ratios.ensures in (
       sound.coded,
       (
         (omega (arith, sound.count.0), omega (arith, sound.count.1)),
