@@ -8,7 +8,11 @@ use Rattle.market.proofs.designated.DesignatedList.remove.Goals as goal
 pub invariant_of-self : goal.invariant_of-self
 invariant_of-self c =
     let quotes : List Quote = vec_items c.args.self.now.quotes in
-    (omega arith, (omega arith, (ap (λ (l : List Quote). once (codes l)) c.remove.ensures.items ∙ once_removed quotes c.in-Some.place c.args.self.now.once, tt)))
+    record {
+      room = omega arith;
+      few = omega arith;
+      once = ap (λ (l : List Quote). once (codes l)) c.remove.ensures.items ∙ once_removed quotes c.in-Some.place c.args.self.now.once;
+    }
 
 pub returns-in-Some : goal.returns-in-Some
 returns-in-Some c =

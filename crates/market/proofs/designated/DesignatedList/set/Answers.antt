@@ -11,23 +11,19 @@ invariant_of-self c =
     let quotes : List Quote = vec_items c.args.self.now.quotes in
     let s = c.in-Some.ensures in
     let x : Quote = record { code = c.args.code; price = c.args.price } in
-    (search rules, (search rules, (ap once (codes-set quotes c.in-Some.place x s.within (sym s.named)) ∙ c.args.self.now.once, tt)))
+    record { room = search rules; few = search rules; once = ap once (codes-set quotes c.in-Some.place x s.within (sym s.named)) ∙ c.args.self.now.once }
 
 pub invariant_of-self-in-None : goal.invariant_of-self-in-None
 invariant_of-self-in-None c =
     let quotes : List Quote = vec_items c.args.self.now.quotes in
-    let x : Quote = record { code = c.args.code; price = c.args.price } in (
-      omega arith,
-      (
-        omega arith,
-        (
+    let x : Quote = record { code = c.args.code; price = c.args.price } in record {
+      room = omega arith;
+      few = omega arith;
+      once =
           ap (λ (l : List Quote). once (codes l)) c.push_reserved.ensures.items
-              ∙ ap once (map_push (λ (q : Quote). q.code) quotes x)
-              ∙ once_push (codes quotes) c.args.code c.args.self.now.once (among-codes quotes c.args.code ∙ ap is_some c.in-None.ensures),
-          tt,
-        ),
-      ),
-    )
+          ∙ ap once (map_push (λ (q : Quote). q.code) quotes x)
+          ∙ once_push (codes quotes) c.args.code c.args.self.now.once (among-codes quotes c.args.code ∙ ap is_some c.in-None.ensures);
+    }
 
 pub returns-in-Some : goal.returns-in-Some
 returns-in-Some c =

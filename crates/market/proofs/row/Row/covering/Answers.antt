@@ -18,16 +18,15 @@ unreachable-requires c =
 
 pub invariant_of-result : goal.invariant_of-result
 invariant_of-result c =
-    let row = c.args.self.now in (
-      tame row.code (prices_of row) (sound_row row) c.as_slice-ratios.result.now (ap (map parts) c.as_slice-ratios.ensures.value ∙ row.same)
-          c.in_ok-place.field-0 c.in-Some.place c.in-Some.count c.in-Some.is c.in_ok-place.ensures.answer c.index-ratios-place.result c.index-ratios-place.is,
-      tt,
-    )
+    let row = c.args.self.now in record {
+      limits = tame row.code (prices_of row) (sound_row row) c.as_slice-ratios.result.now (ap (map parts) c.as_slice-ratios.ensures.value ∙ row.same)
+          c.in_ok-place.field-0 c.in-Some.place c.in-Some.count c.in-Some.is c.in_ok-place.ensures.answer c.index-ratios-place.result c.index-ratios-place.is;
+    }
 
 pub returns : goal.returns
 returns c =
     let row = c.args.self.now in
     let all =
     seen_covering row.code (prices_of row) (sound_row row) c.as_slice-ratios.result.now (ap (map parts) c.as_slice-ratios.ensures.value ∙ row.same)
-    c.in_ok-place.field-0 c.in-Some.place c.in-Some.count c.in-Some.is c.in_ok-place.ensures.answer c.index-ratios-place.result c.index-ratios-place.is c.in_ok-place.ensures.ranks-with-choice in
+    c.in_ok-place.field-0 c.in-Some.place c.in-Some.count c.in-Some.is c.in_ok-place.ensures.answer c.index-ratios-place.result c.index-ratios-place.is c.in_ok-place.ensures.ranks_with_choice in
     record { covers = all.0; ratio = all.1; rank = all.2 }

@@ -13,13 +13,11 @@ invariant_of-result c =
     let sound = subst (Sound c.args.code) (sym c.in_ok-prices.ensures.0) (sound_run c.args.code c.args.run.now (sym c.in_default.ensures)) in
     let size = c.in_ok-prices.prices.ok.0 in
     let room = c.in_ok-prices.ensures in
-    let kept = c.in_ok-ratios.ensures in (
-      sound.coded,
-      (
-        (omega (arith, sound.count.0), omega (arith, sound.count.1)),
-        (
-          (λ k h. sound.limits k (omega (arith, h))),
-          ((λ k h. sound.pace k (omega (arith, h))), (kept.0 ∙ ap moves c.as_slice.ensures.value, ((room.1, kept.1), tt))),
-        ),
-      ),
-    )
+    let kept = c.in_ok-ratios.ensures in record {
+      coded = sound.coded;
+      count = (omega (arith, sound.count.0), omega (arith, sound.count.1));
+      limits = λ k h. sound.limits k (omega (arith, h));
+      pace = λ k h. sound.pace k (omega (arith, h));
+      same = kept.0 ∙ ap moves c.as_slice.ensures.value;
+      room = (room.1, kept.1);
+    }

@@ -23,19 +23,11 @@ invariant_of-self c =
     let sound = subst (Sound row.code) (sym c.slide.ensures.items) (sound_slid row.code ps (sound_row row) price passed.0 slow) in
     let ratio : parts c.ratio_between-ratio.result ≡ move_between (newest ps) price = c.ratio_between-ratio.ensures ∙ ap (λ (n : ℕ). move_between n price) c.newest.ensures in
     let same = same_slid row.code ps (sound_row row) price passed.0 slow (vec_items row.ratios) c.ratio_between-ratio.result ratio row.same in
-    let size = c.slide.new.items.ok.0 in (
-      sound.coded,
-      (
-        (omega (arith, sound.count.0), omega (arith, sound.count.1)),
-        (
-          (λ k h. sound.limits k (omega (arith, h))),
-          (
-            (λ k h. sound.pace k (omega (arith, h))),
-            (
-              ap (map parts) c.slide-2.ensures.items ∙ same ∙ ap moves (sym c.slide.ensures.items),
-              ((omega arith, omega arith), tt),
-            ),
-          ),
-        ),
-      ),
-    )
+    let size = c.slide.new.items.ok.0 in record {
+      coded = sound.coded;
+      count = (omega (arith, sound.count.0), omega (arith, sound.count.1));
+      limits = λ k h. sound.limits k (omega (arith, h));
+      pace = λ k h. sound.pace k (omega (arith, h));
+      same = ap (map parts) c.slide-2.ensures.items ∙ same ∙ ap moves (sym c.slide.ensures.items);
+      room = (omega arith, omega arith);
+    }
