@@ -51,7 +51,7 @@ fn limits_of_prices(rt: HostRuntime) -> Result<(), Fail> {
     let run = run_of(heap, &[1000, 2000, 1, 2])?;
     let row = Row::new(heap, CODE, run.as_slice())?;
     assert!(rt;
-        row.prices() == &[1000, 2000, 1, 2],
+        row.prices() == [1000, 2000, 1, 2].as_slice(),
         "twice the former passes"
     );
     assert_eq!(rt; row.code(), CODE);
