@@ -1,4 +1,4 @@
-/* The check of one record of a day file, for C hosts. Link the library that `rt staticlib record` makes. */
+/* The check of one record of a day file, for C hosts. Link target/staticlib/librecord.a, which tools/c_library makes. */
 #ifndef JASWIRKU_RECORD_H
 #define JASWIRKU_RECORD_H
 

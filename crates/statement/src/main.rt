@@ -11,6 +11,7 @@ use lines::{InWords, Malformed};
 use record::Record;
 use runs::{Quote, listed_run};
 use std::io::Read;
+use std::process::ExitCode;
 use std::{env, fs, io};
 
 /// Prints one record, and leaves the run of prices as it is after it.
@@ -73,10 +74,12 @@ fn run(rt: &HostRuntime) -> anyhow::Result<()> {
     Ok(())
 }
 
-fn main(rt: HostRuntime) -> anyhow::Result<()> {
-    let result = run(&rt);
-    if let Err(e) = &result {
-        eprintln!(rt; "statement: {e}")?;
+fn main(rt: HostRuntime) -> io::Result<ExitCode> {
+    match run(&rt) {
+        Ok(()) => Ok(ExitCode::SUCCESS),
+        Err(e) => {
+            eprintln!(rt; "statement: {e}")?;
+            Ok(ExitCode::FAILURE)
+        }
     }
-    result
 }
