@@ -1,9 +1,8 @@
 // A kind of figure, and its order.
 ghost use Rattle.figure.specs.Orders.{TotalOrder, Equivalence, same_rank, yen_upto, ratio_upto};
 ghost use Rattle.std.specs.Prelude.{◌≡◌, Bool};
-ghost use Rattle.std.proofs.Common.{rules, arith};
-ghost use Rattle.std.proofs.lemmas.Bool.{leb-true, leb-false, le-leb};
-ghost use Rattle.figure.specs.Products.{crossed_transitive};
+ghost use Rattle.std.proofs.Common.{rules};
+ghost use Rattle.figure.specs.Products.{ratio_order};
 
 use crate::kinds::{Ratio, Yen};
 
@@ -32,10 +31,7 @@ impl Figure for Yen {
 impl Figure for Ratio {
     ghost upto = { ratio_upto };
 
-    ghost ordered = { record {
-      any_two_compare = λ x y h. le-leb _ _ (omega (arith, leb-false _ _ h));
-      transitive = λ x y z h k. le-leb _ _ (crossed_transitive x.numerator x.denominator y.numerator y.denominator z.numerator z.denominator y.limits.1 (leb-true _ _ h) (leb-true _ _ k));
-    } };
+    ghost ordered = { ratio_order };
 
     fn not_above(&self, other: &Ratio) -> bool {
         self.numerator as u64 * other.denominator <= other.numerator as u64 * self.denominator
