@@ -74,7 +74,8 @@ def main():
         for name in sorted(files):
             if name.endswith((".rt", ".antt", ".edit")):
                 rewrite(os.path.join(folder, name), lambda text: respelled(text, TABLE))
-    pages = ["README.md"] + ["docs/" + name for name in sorted(os.listdir("docs")) if name.endswith(".md")]
+    # PORT.md names what was, too.
+    pages = ["README.md"] + ["docs/" + name for name in sorted(os.listdir("docs")) if name.endswith(".md") and name != "PORT.md"]
     for page in pages:
         rewrite(page, lambda text: TICKED.sub(lambda m: respelled(m.group(), PAGES), text))
 

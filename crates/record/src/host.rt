@@ -1,4 +1,4 @@
-// The check of a record for a C host.
+// The check of a record for a C host, which the crate record_c exports.
 ghost use Rattle.record.specs.WellFormed.{reading};
 ghost use Rattle.std.specs.Prelude.{◌≡◌, is_some, if◌then◌else◌};
 
