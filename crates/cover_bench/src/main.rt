@@ -5,7 +5,7 @@
 use figure::{Figure, Ratio, Yen, cover};
 use std::alloc::{AllocError, Global};
 use std::time::Instant;
-use std::{env, io};
+use std::{env, io, iter};
 
 const CALLS: u32 = 200;
 
@@ -14,39 +14,33 @@ fn scramble(seed: u32) -> u32 {
     seed.wrapping_mul(1_664_525).wrapping_add(1_013_904_223)
 }
 
-fn scattered_yen(heap: Global, size: usize) -> Result<Vec<Yen>, AllocError> {
-    let mut window = Vec::new(heap);
-    let mut seed = 2009;
-    for _ in 0..size {
-        seed = scramble(seed);
-        window.push(Yen {
-            value: i64::from(seed >> 8) - 8_000_000,
-        })?;
-    }
-    Ok(window)
+/// A window of figures made of numbers that look random.
+fn scattered<F: Drop, M: FnMut(u32) -> Option<F>>(
+    heap: Global,
+    size: usize,
+    make: M,
+) -> Result<Vec<F>, AllocError>
+    requires { (m : _) (seed : _) → M.pre m seed }
+{
+    iter::successors(Some(scramble(2009)), |seed| Some(scramble(*seed)))
+        .take(size)
+        .filter_map(make)
+        .collect(heap)
+}
+
+fn yen(seed: u32) -> Option<Yen> {
+    Some(Yen {
+        value: i64::from(seed >> 8) - 8_000_000,
+    })
+}
+
+/// A ratio as the moves of a price between 1,001 and 1,256 yen are.
+fn ratio(seed: u32) -> Option<Ratio> {
+    Ratio::new(u64::from(seed >> 26), 1001 + u64::from(seed >> 8 & 255))
 }
 
 fn rising_yen(heap: Global, size: usize) -> Result<Vec<Yen>, AllocError> {
-    let mut window = Vec::new(heap);
-    for value in 0..size.min(4096) {
-        window.push(Yen {
-            value: value as i64,
-        })?;
-    }
-    Ok(window)
-}
-
-/// Ratios as the moves of a price between 1,001 and 1,256 yen are.
-fn scattered_ratios(heap: Global, size: usize) -> Result<Vec<Ratio>, AllocError> {
-    let mut window = Vec::new(heap);
-    let mut seed = 2009;
-    for _ in 0..size {
-        seed = scramble(seed);
-        if let Some(ratio) = Ratio::new(u64::from(seed >> 26), 1001 + u64::from(seed >> 8 & 255)) {
-            window.push(ratio)?;
-        }
-    }
-    Ok(window)
+    (0..).take(size).map(|value| Yen { value }).collect(heap)
 }
 
 /// Prints the cover at 99 percent and, if times are wanted, how long a cover takes on the average.
@@ -77,14 +71,14 @@ fn main(rt: HostRuntime) -> io::Result<()> {
             &rt,
             times,
             "scattered yen",
-            scattered_yen(heap, size)?.as_slice(),
+            scattered(heap, size, yen)?.as_slice(),
         )?;
         measure(&rt, times, "rising yen", rising_yen(heap, size)?.as_slice())?;
         measure(
             &rt,
             times,
             "scattered ratios",
-            scattered_ratios(heap, size)?.as_slice(),
+            scattered(heap, size, ratio)?.as_slice(),
         )?;
     }
     Ok(())

@@ -1,11 +1,15 @@
 -- What is known of the cover after each figure.
-use Rattle.std.proofs.Common.{◌≡◌, ℕ, ◌+◌, ◌<◌, ◌≤◌, Bool, true, false, ◌⊎◌, List, length, get_or, Some, None, Option, sym, ap, ◌∙◌, inl, inr, ⊎_elim, arith, MatchOption}
+use Rattle.std.proofs.Common.{◌≡◌, ℕ, ◌+◌, ◌<◌, ◌≤◌, Bool, true, false, List, length, get_or, Some, None, Option, sym, ap, ◌∙◌, subst, ⊎_elim, arith, IfSome, MatchOption}
 use Rattle.std.proofs.lemmas.List.{get_or_read}
-use Rattle.std.proofs.lemmas.Bool.{true≢false, cases_eq}
+use Rattle.std.proofs.lemmas.Bool.{true≢false}
+use Rattle.std.proofs.Math.Nat.{eq-or-lt_of_le}
 use Rattle.figure.specs.Orders.{TotalOrder}
 use Rattle.figure.specs.Cover.{not_above, Reaches, Covers}
-use Rattle.figure.specs.Passing.{Beaten, RuledOut}
 use Rattle.figure.proofs.Counting.{upto_itself, not_above_le, empty_if_none_reaches}
+
+-- whether the best figure so far is not above x
+abbrev pub Beaten : {F : Type 0} → (F → F → Bool) → List F → Option (ℕ × ℕ) → F → Bool → Type 0
+Beaten {F} upto window best x r = MatchOption best (r ≡ false) (λ b. (d : F) → r ≡ upto (get_or window b.0 d) x)
 
 -- the best of the first i figures
 pub record Best {F : Type 0} (upto : F → F → Bool) (window : List F) (percent i place count : ℕ) : Type 0 where
@@ -18,13 +22,9 @@ abbrev pub SoFar : {F : Type 0} → (F → F → Bool) → List F → ℕ → �
 SoFar {F} upto window percent i None = (k : ℕ) (d : F) → k < i → Reaches window percent (not_above upto window (get_or window k d)) → ⊥
 SoFar upto window percent i (Some b) = Best upto window percent i b.0 b.1
 
--- the figure at this place, if any, covers too little
-abbrev pub Short : {F : Type 0} → (F → F → Bool) → List F → ℕ → Option ℕ → Type 0
-Short upto window percent None = Unit {0}
-Short {F} upto window percent (Some k) = (k < length window) × ((d : F) → Reaches window percent (not_above upto window (get_or window k d)) → ⊥)
-
-before_or_at : (k i : ℕ) → k < i + 1 → (k < i) ⊎ (k ≡ i)
-before_or_at k i h = ⊎_elim inr (λ ne. inl (omega (arith, ne))) (cases_eq k i)
+-- too few figures are not above x
+abbrev pub TooFew : {F : Type 0} → (F → F → Bool) → List F → ℕ → F → Type 0
+TooFew upto window percent x = Reaches window percent (not_above upto window x) → ⊥
 
 module _ {F : Type 0} {upto : F → F → Bool} (o : TotalOrder upto) (window : List F) (percent : ℕ) where
   module _ (i : ℕ) (x : F) (within : i < length window) (read : x ≡ get_or window i x) where
@@ -37,7 +37,7 @@ module _ {F : Type 0} {upto : F → F → Bool} (o : TotalOrder upto) (window : 
       within = omega arith;
       counted = λ d. counted ∙ ap (not_above upto window) (here d);
       enough = enough;
-      lowest = λ k d h e. ⊎_elim (λ lt. elsewhere b so beaten k d lt e) (λ eq. rw eq (upto_itself o (get_or window i d))) (before_or_at k i h);
+      lowest = λ k d h e. ⊎_elim (λ eq. rw eq (upto_itself o (get_or window i d))) (λ lt. elsewhere b so beaten k d lt e) (eq-or-lt_of_le {n = k} {m = i} (omega (arith, h)));
     } where
       elsewhere : (c : Option (ℕ × ℕ)) → SoFar upto window percent i c → Beaten upto window c x false → (k : ℕ) (d : F) → k < i → Reaches window percent (not_above upto window (get_or window k d)) → upto (get_or window i d) (get_or window k d) ≡ true
       elsewhere None s t k d lt e = absurd (s k d lt e)
@@ -56,12 +56,12 @@ module _ {F : Type 0} {upto : F → F → Bool} (o : TotalOrder upto) (window : 
           short (omega (arith, same, e))
 
       more : (c : Option (ℕ × ℕ)) → SoFar upto window percent i c → SoFar upto window percent (i + 1) c
-      more None s = λ k d h e. ⊎_elim (λ lt. s k d lt e) (λ eq. not_here k d eq e) (before_or_at k i h)
+      more None s = λ k d h e. ⊎_elim (λ eq. not_here k d eq e) (λ lt. s k d lt e) (eq-or-lt_of_le {n = k} {m = i} (omega (arith, h)))
       more (Some c) s = record {
         within = omega (arith, s.within);
         counted = s.counted;
         enough = s.enough;
-        lowest = λ k d h e. ⊎_elim (λ lt. s.lowest k d lt e) (λ eq. absurd (not_here k d eq e)) (before_or_at k i h);
+        lowest = λ k d h e. ⊎_elim (λ eq. absurd (not_here k d eq e)) (λ lt. s.lowest k d lt e) (eq-or-lt_of_le {n = k} {m = i} (omega (arith, h)));
       }
 
     -- the best so far is not above x
@@ -71,17 +71,17 @@ module _ {F : Type 0} {upto : F → F → Bool} (o : TotalOrder upto) (window : 
       within = omega (arith, so.within);
       counted = so.counted;
       enough = so.enough;
-      lowest = λ k d h e. ⊎_elim (λ lt. so.lowest k d lt e) (λ eq. let known = beaten d in let at = here d in (cc)) (before_or_at k i h);
+      lowest = λ k d h e. ⊎_elim (λ eq. let known = beaten d in let at = here d in (cc)) (λ lt. so.lowest k d lt e) (eq-or-lt_of_le {n = k} {m = i} (omega (arith, h)));
     }
 
-    -- x is the next figure known to cover too little
-    pub short_here : (Reaches window percent (not_above upto window x) → ⊥) → Short upto window percent (Some i)
-    short_here short = (within, λ d e. short (omega (arith, e, ap (not_above upto window) (here d))))
-
   -- what is not above a figure that covers too little covers too little
-  pub ruled_out : (s : Option ℕ) → Short upto window percent s → (x : F) → RuledOut upto window s x true → Reaches window percent (not_above upto window x) → ⊥
-  ruled_out None short x out e = absurd (true≢false out)
-  ruled_out (Some k) short x out e = short.1 x (omega (arith, not_above_le o window x (get_or window k x) (sym (out x)), e))
+  pub ruled_out : {B : Type 0} (at : B → F) (short : Option B) → IfSome short (λ s. TooFew upto window percent (at s)) → (x : F) (r : Bool) → MatchOption short (r ≡ false) (λ s. r ≡ upto x (at s)) → r ≡ true → TooFew upto window percent x
+  ruled_out at None few x r out e = absurd (true≢false (sym e ∙ out))
+  ruled_out at (Some s) few x r out e = λ reached. few (omega (arith, not_above_le o window x (at s) (sym out ∙ e), reached))
+
+  -- the place of the best so far lies before i
+  pub best_within : (i : ℕ) (best : Option (ℕ × ℕ)) → SoFar upto window percent i best → (b : ℕ × ℕ) → best ≡ Some b → b.0 < i
+  best_within i best so b e = (subst (SoFar upto window percent i) e so).within
 
   -- after the last figure
   pub found : percent ≤ 100 → (i : ℕ) → length window ≤ i → i ≤ length window → (b : Option (ℕ × ℕ)) → SoFar upto window percent i b → MatchOption b (length window ≡ 0) (λ r. Covers upto window percent r.0 r.1)

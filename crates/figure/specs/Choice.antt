@@ -1,5 +1,5 @@
 -- One covering figure, chosen so that other definitions can speak of the cover as a value.
-use Rattle.std.specs.Prelude.{◌≡◌, ℕ, ◌*◌, Bool, true, cond, List, [], ◌∷◌, length, Some, None, Ok, Err, filter, Option, Result, MatchOption, nat_le, slice_index_or}
+use Rattle.std.specs.Prelude.{◌≡◌, ℕ, ◌*◌, Bool, true, if◌then◌else◌, List, [], ◌∷◌, length, Some, None, Ok, Err, filter, Option, Result, MatchOption, nat_le, slice_index_or}
 use Rattle.figure.specs.declared.fault.FigureFault.{FigureFault}
 use Rattle.figure.specs.Orders.{same_rank}
 use Rattle.figure.specs.Refusal.{denial, unless}
@@ -12,7 +12,7 @@ enough_upto upto window percent x = nat_le (percent * length window) (100 * not_
 -- the lower of two figures where there are two, the first of them where they share a rank
 abbrev pub lower : {F : Type 0} → (F → F → Bool) → F → Option F → Option F
 lower upto x None = Some x
-lower upto x (Some y) = Some (cond (upto x y) x y)
+lower upto x (Some y) = Some (if upto x y then x else y)
 
 abbrev pub lowest_of : {F : Type 0} → (F → F → Bool) → List F → Option F
 lowest_of upto [] = None

@@ -2,5 +2,4 @@ pub mod Orders
 pub mod Refusal
 pub mod Cover
 pub mod Choice
-pub mod Passing
 pub mod Products

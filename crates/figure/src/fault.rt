@@ -12,6 +12,7 @@ pub enum FigureFault {
 
 impl FigureFault {
     /// The refusal's number.
+    // Numbers are for those outside; within, the fault itself is passed on.
     pub fn number(self) -> u8
         ensures { result ≡ fault_number self }
     {

@@ -2,7 +2,7 @@
 ghost use Rattle.std.specs.Prelude.{◌≡◌, ◌^◌, ◌<◌, ◌≤◌, MatchOption};
 
 /// Money in whole yen; a loss of value is negative.
-#[derive(Clone, Copy, PartialEq, Eq, Debug)]
+#[derive(Clone, Copy, PartialEq, Eq, PartialOrd, Ord, Debug)]
 pub struct Yen {
     pub value: i64,
 }
@@ -18,13 +18,16 @@ pub struct Ratio {
 impl Ratio {
     /// The ratio of a numerator below 2^32 and a denominator from 1 to 2^32.
     pub fn new(numerator: u64, denominator: u64) -> Option<Ratio>
-        ensures { MatchOption result (numerator < 2 ^ 32 → 1 ≤ denominator → denominator ≤ 2 ^ 32 → ⊥) (λ q. (q.numerator ≡ numerator) × (q.denominator ≡ denominator)) }
+        ensures { MatchOption result
+            (numerator < 2 ^ 32 → 1 ≤ denominator → denominator ≤ 2 ^ 32 → ⊥)
+            (λ q. (q.numerator ≡ numerator) × (q.denominator ≡ denominator)) }
     {
-        if numerator > 0xffff_ffff || denominator < 1 || denominator > 0x1_0000_0000 {
+        let numerator = u32::try_from(numerator).ok()?;
+        if !(1..=0x1_0000_0000).contains(&denominator) {
             return None;
         }
         Some(Ratio {
-            numerator: numerator as u32,
+            numerator,
             denominator,
         })
     }

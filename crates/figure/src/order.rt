@@ -7,6 +7,7 @@ ghost use Rattle.figure.specs.Products.{ratio_order};
 use crate::kinds::{Ratio, Yen};
 
 /// Figures of one kind, any two of which compare. Two of which neither is above the other share one rank.
+// This is not std's `Ord`, whose laws want figures of one rank to be equal: 1/2 and 2/4 are not.
 pub trait Figure {
     /// Whether the first figure is not above the second.
     ghost upto: { Self → Self → Bool };
@@ -24,7 +25,7 @@ impl Figure for Yen {
     ghost ordered = { Prim.search rules };
 
     fn not_above(&self, other: &Yen) -> bool {
-        self.value <= other.value
+        self <= other
     }
 }
 
@@ -34,7 +35,8 @@ impl Figure for Ratio {
     ghost ordered = { ratio_order };
 
     fn not_above(&self, other: &Ratio) -> bool {
-        self.numerator as u64 * other.denominator <= other.numerator as u64 * self.denominator
+        u64::from(self.numerator) * other.denominator
+            <= u64::from(other.numerator) * self.denominator
     }
 }
 

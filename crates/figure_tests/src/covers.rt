@@ -4,11 +4,7 @@ use std::test::Fail;
 
 /// The yen from 1 up to `most`.
 fn counted(heap: Global, most: i64) -> Result<Vec<Yen>, AllocError> {
-    let mut window = Vec::new(heap);
-    for value in 1..=most {
-        window.push(Yen { value })?;
-    }
-    Ok(window)
+    (1..=most).map(|value| Yen { value }).collect(heap)
 }
 
 #[test]
