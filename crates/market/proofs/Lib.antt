@@ -1,9 +1,7 @@
-pub mod Sheets
-pub mod Codes
+pub mod Found
 pub mod Designations
-pub mod Runs
 pub mod Moving
-pub mod Sound
-pub mod Sliding
 pub mod Mapped
+pub mod Runs
+pub mod Sliding
 pub mod Covered

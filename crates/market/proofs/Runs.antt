@@ -1,23 +1,35 @@
--- What is left of a run, one price on.
-use Rattle.std.proofs.Common.{◌≡◌, ℕ, ◌+◌, ◌<◌, true, ◌||◌, List, length, get_or, drop, Some, Option, sym, ap, ◌∙◌}
-use Rattle.std.specs.Option.{option_or}
-use Rattle.std.proofs.lemmas.List.{at_drop_more}
-use Rattle.std.proofs.lemmas.Bool.{eq-eqb, ne_eqb, not_from_true, not_from_false, or_left}
-use Rattle.market.specs.declared.quote.Quote.{Quote}
-use Rattle.market.specs.declared.fault.PriceFault.{PriceFault}
-use Rattle.market.specs.Designation.{blank}
-use Rattle.market.specs.Limits.{price_fault, first_fault}
-use Rattle.market.specs.Rows.{prices, holds_other}
+-- A run that is not refused makes a row.
+use Rattle.std.proofs.Common.{◌≡◌, ℕ, zero, suc, false, List, [], ◌∷◌, All, Some, None, Option, add-one, arith}
+use Rattle.std.proofs.lemmas.Bool.Decides.{nat_tests}
+use Rattle.std.proofs.lemmas.List.{length-map}
+use Rattle.record.specs.declared.quote.Quote.{Quote}
+use Rattle.market.specs.Limits.{WithinLimits, KeepsPace, above_twice, price_fault, first_fault}
+use Rattle.market.specs.Rows.{IsRow, prices, row_denial}
 
-module _ (run : List Quote) (i : ℕ) (within : i < length run) where
-  pub other_here : (code : ℕ) → ((get_or run i blank).code ≡ code → ⊥) → holds_other code (drop i run) ≡ true
-  other_here code ne = at_drop_more (holds_other code) run i blank within ∙ or_left _ _ (not_from_false _ (ne_eqb _ _ ne))
+-- a price without fault is within its limits, and not above twice the former one
+pub faultless : (former : Option ℕ) (price : ℕ) → price_fault former price ≡ None → WithinLimits price × (above_twice former price ≡ false)
+faultless former price e = grind (arith, nat_tests)
 
-  pub same_here : (code : ℕ) → (get_or run i blank).code ≡ code → holds_other code (drop i run) ≡ holds_other code (drop (i + 1) run)
-  same_here code e = at_drop_more (holds_other code) run i blank within ∙ ap (λ b. b || holds_other code (drop (i + 1) run)) (not_from_true _ (eq-eqb _ _ e))
+-- prices without fault are all within their limits
+all_within : (former : Option ℕ) (ps : List ℕ) → first_fault former ps ≡ None → All WithinLimits ps
+all_within former [] e k d h = absurd (omega arith)
+all_within former (p ∷ ps) e zero d h = grind (arith, faultless)
+all_within former (p ∷ ps) e (suc k) d h = all_within (Some p) ps (grind arith) k d (omega arith)
 
-  -- `fault` is what is wrong with the price there
-  pub fault_more : (former : Option ℕ) (fault : Option PriceFault) → fault ≡ price_fault former (get_or run i blank).price → first_fault former (prices (drop i run)) ≡ option_or fault (first_fault (Some (get_or run i blank).price) (prices (drop (i + 1) run)))
-  fault_more former fault e =
-      at_drop_more (λ (l : List Quote). first_fault former (prices l)) run i blank within
-      ∙ ap (λ (f : Option PriceFault). option_or f (first_fault (Some (get_or run i blank).price) (prices (drop (i + 1) run)))) (sym e)
+-- and none of them is above twice the one before it
+keeps_pace : (former : Option ℕ) (ps : List ℕ) → first_fault former ps ≡ None → KeepsPace ps
+keeps_pace former [] e k d h = absurd (omega arith)
+keeps_pace former (p ∷ []) e k d h = absurd (omega arith)
+keeps_pace former (p ∷ (q ∷ qs)) e zero d h = grind (arith, faultless)
+keeps_pace former (p ∷ (q ∷ qs)) e (suc k) d h = simp add-one (simp add-one at (keeps_pace (Some p) (q ∷ qs) (grind arith) k d (omega arith)))
+
+-- a run that is not refused has the prices of a row
+pub IsRow-from_run : (code : ℕ) (run : List Quote) → row_denial code run ≡ None → IsRow (record { code = code; prices = prices run })
+IsRow-from_run code run e =
+    let free : first_fault None (prices run) ≡ None = grind (arith, nat_tests) in
+    record {
+      coded = grind (arith, nat_tests);
+      count = grind (arith, nat_tests, length-map run (λ (q : Quote). q.price));
+      limits = all_within None (prices run) free;
+      pace = keeps_pace None (prices run) free;
+    }

@@ -1,5 +1,6 @@
 -- How prices move from one to the next.
-use Rattle.std.specs.Prelude.{ℕ, ◌+◌, ◌-◌, ◌*◌, Bool, List, [], ◌∷◌, nat_le}
+use Rattle.std.specs.Prelude.{ℕ, ◌+◌, ◌-◌, ◌*◌, Bool, List, map, drop, nat_le}
+use Rattle.std.specs.List.{zip}
 use Rattle.figure.specs.declared.kinds.Ratio.{Ratio}
 
 -- a move: how far, over the price that it starts from
@@ -10,14 +11,9 @@ Move = ℕ × ℕ
 abbrev pub move_between : ℕ → ℕ → Move
 move_between earlier later = ((later - earlier) + (earlier - later), earlier)
 
--- the moves of neighbouring prices
-abbrev pub moves_from : ℕ → List ℕ → List Move
-moves_from earlier [] = []
-moves_from earlier (later ∷ prices) = move_between earlier later ∷ moves_from later prices
-
+-- the moves of neighbouring prices: each price beside the one behind it
 abbrev pub moves : List ℕ → List Move
-moves [] = []
-moves (oldest ∷ prices) = moves_from oldest prices
+moves prices = map (λ (pair : ℕ × ℕ). move_between pair.0 pair.1) (zip prices (drop 1 prices))
 
 -- moves compare as ratios do: a/b is not above c/d when a × d ≤ c × b
 abbrev pub move_upto : Move → Move → Bool

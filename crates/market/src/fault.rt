@@ -48,6 +48,7 @@ pub enum MarketFault {
 
 impl MarketFault {
     /// The refusal's number; want of memory has none.
+    // Numbers are for those outside; within, the fault itself is passed on.
     pub fn number(self) -> Option<u8>
         ensures { result ≡ market_number self }
     {
@@ -66,12 +67,10 @@ impl MarketFault {
         ensures { result ≡ market_code self }
     {
         match self {
-            MarketFault::Code { code } => Some(code),
-            MarketFault::Price { code } => Some(code),
-            MarketFault::NotDesignated { code } => Some(code),
-            MarketFault::Figure(_) => None,
-            MarketFault::Full => None,
-            MarketFault::Memory => None,
+            MarketFault::Code { code }
+            | MarketFault::Price { code }
+            | MarketFault::NotDesignated { code } => Some(code),
+            MarketFault::Figure(_) | MarketFault::Full | MarketFault::Memory => None,
         }
     }
 }

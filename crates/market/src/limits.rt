@@ -1,6 +1,7 @@
 // The limits of a price.
 ghost use Rattle.market.specs.Limits.{outside_limits, price_fault};
 ghost use Rattle.std.specs.Prelude.{◌≡◌};
+ghost use Rattle.std.specs.Result.{result_err};
 
 use crate::fault::PriceFault;
 
@@ -11,18 +12,18 @@ const HIGHEST_PRICE: u32 = 800_000;
 pub(crate) fn is_outside_limits(price: u32) -> bool
     ensures { result ≡ outside_limits price }
 {
-    price < 1 || price > HIGHEST_PRICE
+    !(1..=HIGHEST_PRICE).contains(&price)
 }
 
-/// What is wrong with a price behind a former one.
-pub(crate) fn price_fault(former: Option<u32>, price: u32) -> Option<PriceFault>
-    ensures { result ≡ price_fault former price }
+/// Refuses a price that may not follow the former one.
+pub(crate) fn check_price(former: Option<u32>, price: u32) -> Result<(), PriceFault>
+    ensures { result_err result ≡ price_fault former price }
 {
     if is_outside_limits(price) {
-        return Some(PriceFault::OutsideLimits);
+        return Err(PriceFault::OutsideLimits);
     }
     match former {
-        Some(former) if price as u64 > 2 * former as u64 => Some(PriceFault::AboveTwice),
-        _ => None,
+        Some(former) if u64::from(price) > 2 * u64::from(former) => Err(PriceFault::AboveTwice),
+        _ => Ok(()),
     }
 }

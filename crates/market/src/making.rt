@@ -1,15 +1,16 @@
 // A row is made of a run of prices.
 ghost use Rattle.market.specs.Rows.{holds_other, row_denial, prices};
 ghost use Rattle.market.specs.Limits.{WithinLimits, first_fault};
-ghost use Rattle.std.specs.Prelude.{◌≡◌, ℕ, ◌<◌, ◌≤◌, map, length, IfOk, None, vec_capacity, slice_index};
+ghost use Rattle.std.specs.Prelude.{◌≡◌, ◌≤◌, map, length, All, IfOk, None, vec_capacity};
+ghost use Rattle.std.specs.Result.{result_err};
 ghost use Rattle.market.specs.Moves.{moves, move_between, parts};
 ghost use Rattle.market.specs.View.{MadeOf};
 
 use crate::fault::{PriceFault, RowFault};
-use crate::limits::price_fault;
-use crate::quote::Quote;
+use crate::limits::check_price;
 use crate::row::Row;
 use figure::Ratio;
+use record::Quote;
 use std::alloc::{AllocError, Global};
 
 /// The fewest and the most prices that a row has.
@@ -21,42 +22,32 @@ pub(crate) const MOST_PRICES: usize = 121;
 fn holds_other(run: &[Quote], code: u32) -> bool
     ensures { result ≡ holds_other code run.now }
 {
-    for quote in run {
-        if quote.code != code {
-            return true;
-        }
-    }
-    false
+    run.iter().any(|quote| quote.code != code)
 }
 
-/// The first fault of a run's prices, from the oldest.
-fn first_fault(run: &[Quote]) -> Option<PriceFault>
-    ensures { result ≡ first_fault None (prices run.now) }
+/// Refuses a run for the first fault of its prices, from the oldest.
+fn check_prices(run: &[Quote]) -> Result<(), PriceFault>
+    ensures { result_err result ≡ first_fault None (prices run.now) }
 {
     let mut former = None;
     for quote in run {
-        if let Some(fault) = price_fault(former, quote.price) {
-            return Some(fault);
-        }
+        check_price(former, quote.price)?;
         former = Some(quote.price);
     }
-    None
+    Ok(())
 }
 
-/// Why no row of this code is made of the run.
-fn row_denial(code: u32, run: &[Quote]) -> Option<RowFault>
-    ensures { result ≡ row_denial code run.now }
+/// Refuses a run of which no row of this code is made.
+fn check_run(code: u32, run: &[Quote]) -> Result<(), RowFault>
+    ensures { result_err result ≡ row_denial code run.now }
 {
     if code == 0 {
-        return Some(RowFault::Code);
+        return Err(RowFault::Code);
     }
-    if run.len() < FEWEST_PRICES || run.len() > MOST_PRICES || holds_other(run, code) {
-        return Some(RowFault::Run);
+    if !(FEWEST_PRICES..=MOST_PRICES).contains(&run.len()) || holds_other(run, code) {
+        return Err(RowFault::Run);
     }
-    match first_fault(run) {
-        Some(fault) => Some(RowFault::Price { code, fault }),
-        None => None,
-    }
+    check_prices(run).map_err(|fault| RowFault::Price { code, fault })
 }
 
 /// The ratio of a neighbouring pair of prices: how far the later one lies from the earlier one, over the earlier one.
@@ -66,32 +57,34 @@ pub(crate) fn ratio_between(earlier: u32, later: u32) -> Ratio
 {
     Ratio {
         numerator: later.abs_diff(earlier),
-        denominator: earlier as u64,
+        denominator: u64::from(earlier),
     }
 }
 
 /// A run's prices alone, with room for all that a row may keep.
 fn prices_of(heap: Global, run: &[Quote]) -> Result<Vec<u32>, AllocError>
-    requires { length run.now ≤ 121 }
-    ensures { IfOk result (λ v. (v.items ≡ prices run.now) × (121 ≤ vec_capacity v)) }
+    ensures items { IfOk result (λ v. v.items ≡ prices run.now) }
+    ensures room { IfOk result (λ v. 121 ≤ vec_capacity v) }
 {
     let mut prices = Vec::with_capacity(heap, MOST_PRICES)?;
-    for quote in run {
-        prices.push_reserved(quote.price);
-    }
+    prices.extend(run.iter().map(|quote| quote.price))?;
     Ok(prices)
 }
 
 /// The ratios of neighbouring prices, with room for all that a row may keep.
 fn ratios_of(heap: Global, prices: &[u32]) -> Result<Vec<Ratio>, AllocError>
-    requires count { (1 ≤ length prices.now) × (length prices.now ≤ 121) }
-    requires limits { (k : ℕ) → k < length prices.now → WithinLimits (slice_index prices.now k) }
-    ensures { IfOk result (λ v. (map parts v.items ≡ moves prices.now) × (120 ≤ vec_capacity v)) }
+    requires some { 1 ≤ length prices.now }
+    requires limits { All WithinLimits prices.now }
+    ensures items { IfOk result (λ v. map parts v.items ≡ moves prices.now) }
+    ensures room { IfOk result (λ v. 120 ≤ vec_capacity v) }
 {
     let mut ratios = Vec::with_capacity(heap, MOST_PRICES - 1)?;
-    for i in 0..prices.len() - 1 {
-        ratios.push_reserved(ratio_between(prices[i], prices[i + 1]));
-    }
+    ratios.extend(
+        prices
+            .iter()
+            .zip(&prices[1..])
+            .map(|(earlier, later)| ratio_between(*earlier, *later)),
+    )?;
     Ok(ratios)
 }
 
@@ -101,11 +94,9 @@ impl Row {
     pub fn new(heap: Global, code: u32, run: &[Quote]) -> Result<Row, RowFault>
         ensures { MadeOf code run.now result }
     {
-        if let Some(fault) = row_denial(code, run) {
-            return Err(fault);
-        }
+        check_run(code, run)?;
         let prices = prices_of(heap, run)?;
-        let ratios = ratios_of(heap, prices.as_slice())?;
+        let ratios = ratios_of(heap, &prices)?;
         Ok(Row {
             code,
             prices,

@@ -1,6 +1,7 @@
 // What a row tells.
 ghost use Rattle.market.specs.Moves.{moves, parts};
-ghost use Rattle.market.specs.View.{code_of, prices_of, Covering};
+ghost use Rattle.market.specs.Rows.{IsRow};
+ghost use Rattle.market.specs.View.{Covering};
 ghost use Rattle.std.specs.Prelude.{◌≡◌, ◌≤◌, map, length, IsOkAnd};
 
 use crate::covering::CoveringRatio;
@@ -13,21 +14,22 @@ const PERCENT: u32 = 99;
 
 impl Row {
     pub fn code(&self) -> u32
-        ensures { result ≡ code_of self.now }
+        ensures { result ≡ self.now.code }
     {
         self.code
     }
 
     /// The prices, oldest first.
     pub fn prices(&self) -> &[u32]
-        ensures { result.now ≡ prices_of self.now }
+        ensures value { result.now ≡ self.now.prices }
+        ensures kept { IsRow self.now }
     {
         self.prices.as_slice()
     }
 
     /// The ratio of each neighbouring pair of prices, oldest first.
     pub fn ratios(&self) -> &[Ratio]
-        ensures value { map parts result.now ≡ moves (prices_of self.now) }
+        ensures value { map parts result.now ≡ moves self.now.prices }
         ensures count { (1 ≤ length result.now) × (length result.now ≤ 120) }
     {
         self.ratios.as_slice()
@@ -35,16 +37,15 @@ impl Row {
 
     /// The ratio that covers the row at 99 percent. Every row has one, so no fault ever comes of the cover.
     pub fn covering(&self) -> Result<CoveringRatio, MarketFault>
-        ensures { IsOkAnd result (Covering (prices_of self.now)) }
+        ensures { IsOkAnd result (Covering self.now.prices) }
     {
-        let ratios = self.ratios.as_slice();
-        match cover(ratios, PERCENT)? {
-            Some((place, count)) => Ok(CoveringRatio {
-                ratio: ratios[place],
-                place,
-                count,
-            }),
-            None => unreachable(),
-        }
+        let Some((place, count)) = cover(&self.ratios, PERCENT)? else {
+            unreachable!()
+        };
+        Ok(CoveringRatio {
+            ratio: self.ratios[place],
+            place,
+            count,
+        })
     }
 }

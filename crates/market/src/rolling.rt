@@ -1,12 +1,12 @@
 // A row takes one price more.
 ghost use Rattle.market.specs.Limits.{price_fault};
 ghost use Rattle.market.specs.Rows.{newest, latest};
-ghost use Rattle.market.specs.View.{prices_of, Rolled};
+ghost use Rattle.market.specs.View.{Rolled};
 ghost use Rattle.std.specs.Prelude.{◌≡◌, ◌≤◌, [], ◌∷◌, ◌++◌, Some, vec_len, vec_capacity};
 ghost use Rattle.std.specs.Result.{result_err};
 
 use crate::fault::PriceFault;
-use crate::limits::price_fault;
+use crate::limits::check_price;
 use crate::making::{MOST_PRICES, ratio_between};
 use crate::row::Row;
 
@@ -26,25 +26,22 @@ fn slide<T: Drop>(items: &mut Vec<T>, item: T, most: usize)
 impl Row {
     /// The newest price.
     pub fn newest(&self) -> u32
-        ensures { result ≡ newest (prices_of self.now) }
+        ensures { result ≡ newest self.now.prices }
     {
         self.prices[self.prices.len() - 1]
     }
 
     /// Tests a price that is to follow the newest: it may lie outside its limits, or be above twice the newest.
     pub fn test(&self, price: u32) -> Result<(), PriceFault>
-        ensures { result_err result ≡ price_fault (Some (newest (prices_of self.now))) price }
+        ensures { result_err result ≡ price_fault (Some (newest self.now.prices)) price }
     {
-        match price_fault(Some(self.newest()), price) {
-            Some(fault) => Err(fault),
-            None => Ok(()),
-        }
+        check_price(Some(self.newest()), price)
     }
 
     /// Rolls the row forward: appends a price and keeps the latest 121. A price that does not pass the test is
     /// refused, and the row stays as it was.
     pub fn roll(&mut self, price: u32) -> Result<(), PriceFault>
-        ensures answer { result_err result ≡ price_fault (Some (newest (prices_of self.old))) price }
+        ensures answer { result_err result ≡ price_fault (Some (newest self.old.prices)) price }
         ensures rolled { Rolled self.old price self.new result }
     {
         self.test(price)?;

@@ -4,12 +4,13 @@ ghost use Rattle.std.specs.Prelude.{◌≡◌};
 
 use crate::source::PriceSource;
 use record::Record;
+use std::convert::AsSlice;
 
-/// Bytes taken as records of 32 bytes from the start, a shorter remainder ignored.
+/// Bytes, held or lent, taken as records of 32 bytes from the start, a shorter remainder ignored.
 /// The first well-formed P record of a code gives its price.
 #[derive(Drop)]
-pub struct Sheet<'a> {
-    pub bytes: &'a [u8],
+pub struct Sheet<B> {
+    pub bytes: B,
 }
 
 /// The price that a record gives an issue: that of a well-formed P record of its code.
@@ -17,7 +18,7 @@ fn price_in(bytes: &[u8], code: u32) -> Option<u32>
     ensures { result ≡ price_in bytes.now code }
 {
     match Record::read(bytes) {
-        Some(Record::Price { code: named, price }) if named == code => Some(price),
+        Some(Record::Price(quote)) if quote.code == code => Some(quote.price),
         _ => None,
     }
 }
@@ -26,28 +27,18 @@ fn price_in(bytes: &[u8], code: u32) -> Option<u32>
 fn first_price(bytes: &[u8], code: u32) -> Option<u32>
     ensures { result ≡ sheet_price bytes.now code }
 {
-    let count = bytes.len() / 32;
-    for i in 0..count {
-        let at = 32 * i;
-        if let Some(price) = price_in(&bytes[at..at + 32], code) {
-            return Some(price);
-        }
-    }
-    None
+    let (records, _) = bytes.as_chunks::<32>();
+    records.iter().find_map(|record| price_in(record, code))
 }
 
-impl<'a> PriceSource for Sheet<'a> {
+impl<B: AsSlice<u8>> PriceSource for Sheet<B> {
     const LETTER: u8 = b'S';
 
-    ghost means = { λ s. sheet_price s.bytes.now };
+    ghost LETTER = { 83 };
 
-    ghost mark = { 83 };
+    ghost means = { λ s. sheet_price (B.items s.bytes) };
 
     fn consult(&mut self, code: u32) -> Option<u32> {
-        first_price(self.bytes, code)
-    }
-
-    fn source_letter(&self) -> u8 {
-        Self::LETTER
+        first_price(self.bytes.as_slice(), code)
     }
 }

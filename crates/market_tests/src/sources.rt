@@ -1,10 +1,10 @@
-use market::{DesignatedList, Joined, MarketFault, PriceSource, Sheet};
+use market::{DesignatedList, Joined, MarketFault, PriceSource, Quote, Sheet};
 use record::Record;
 use std::alloc::{AllocError, Global};
 use std::test::Fail;
 
 fn price(code: u32, price: u32) -> [u8; 32] {
-    Record::Price { code, price }.write()
+    Record::Price(Quote { code, price }).write()
 }
 
 /// A sheet of four records, of which the second has a byte that no P record uses, and a remainder.
@@ -30,7 +30,7 @@ fn a_sheet_gives_its_first_price(rt: HostRuntime) -> Result<(), Fail> {
     assert_eq!(rt; sheet.consult(101), Some(990), "asked again");
     assert_eq!(rt; sheet.consult(102), Some(510), "past a malformed record");
     assert_eq!(rt; sheet.consult(103), None);
-    assert_eq!(rt; sheet.source_letter(), b'S');
+    assert_eq!(rt; Sheet::<&[u8]>::LETTER, b'S');
     let short = price(101, 990);
     let mut remainder = Sheet {
         bytes: &short[0..31],
@@ -80,7 +80,7 @@ fn sixteen_are_designated(rt: HostRuntime) -> Result<(), Fail> {
     assert_eq!(rt; list.consult(17), Some(800_000));
     assert_eq!(rt; list.consult(4), Some(1000));
     assert_eq!(rt; list.consult(6), Some(1000));
-    assert_eq!(rt; list.source_letter(), b'D');
+    assert_eq!(rt; DesignatedList::LETTER, b'D');
     Ok(())
 }
 
@@ -134,7 +134,7 @@ fn a_sheet_over_a_designated_list(rt: HostRuntime) -> Result<(), Fail> {
     assert_eq!(rt; joined.consult(101), Some(990), "the first source has it");
     assert_eq!(rt; joined.consult(103), Some(3), "only the second has it");
     assert_eq!(rt; joined.consult(104), None);
-    assert_eq!(rt; joined.source_letter(), b'J');
+    assert_eq!(rt; Joined::<Sheet<&[u8]>, DesignatedList>::LETTER, b'J');
     let last = price(104, 4);
     let mut nested = Joined {
         first: joined,

@@ -1,35 +1,21 @@
 // What one record of a day file says.
+use crate::contract::Contract;
+use crate::quote::Quote;
 
 /// A record, by its letter.
+// It is read and written by methods, as std's numbers are from and to bytes: each keeps two promises apart by name.
 #[derive(Clone, Copy, PartialEq, Eq, Debug)]
 pub enum Record {
     /// P: a price of an issue.
-    Price {
-        code: u32,
-        price: u32,
-    },
+    Price(Quote),
     /// L: lists an issue.
-    Listing {
-        code: u32,
-    },
+    Listing { code: u32 },
     /// O: opens a day.
-    Opening {
-        date: u32,
-    },
+    Opening { date: u32 },
     /// B: a contract bought.
-    Bought {
-        code: u32,
-        settlement: u32,
-        quantity: u32,
-        money: u64,
-    },
+    Bought(Contract),
     /// S: a contract sold.
-    Sold {
-        code: u32,
-        settlement: u32,
-        quantity: u32,
-        money: u64,
-    },
+    Sold(Contract),
     /// K: strikes the day and serves its notice.
     Strike,
 }

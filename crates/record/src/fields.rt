@@ -1,9 +1,13 @@
 // The fields behind a record's letter and its three zero bytes.
-ghost use Rattle.record.specs.Layout.{four_at, eight_at, fields_at};
-ghost use Rattle.std.specs.Prelude.{◌≡◌, ◌+◌, ◌≤◌, length, MatchOption, ◌≢◌};
+ghost use Rattle.record.specs.Layout.{fields_at};
+ghost use Rattle.record.specs.WellFormed.{contract_in};
+ghost use Rattle.record.specs.Writing.{contract_fields, field_bytes};
+ghost use Rattle.std.specs.Prelude.{◌≡◌, length, SomeIff, IfSome};
+
+use crate::contract::Contract;
 
 /// A record's fields, used by its letter or not.
-#[derive(Clone, Copy)]
+#[derive(Clone, Copy, Default)]
 pub struct Fields {
     pub code: u32,
     pub date: u32,
@@ -14,36 +18,51 @@ pub struct Fields {
     pub spare: u64,
 }
 
-/// The four bytes from a place on, as a big-endian number.
-fn four(bytes: &[u8], at: usize) -> u32
-    requires { at + 4 ≤ length bytes.now }
-    ensures { result ≡ four_at bytes.now at }
-{
-    u32::from_be_bytes([bytes[at], bytes[at + 1], bytes[at + 2], bytes[at + 3]])
-}
-
-/// The eight bytes from a place on, as a big-endian number.
-fn eight(bytes: &[u8], at: usize) -> u64
-    requires { at + 8 ≤ length bytes.now }
-    ensures { result ≡ eight_at bytes.now at }
-{
-    four(bytes, at) as u64 * 0x1_0000_0000 + four(bytes, at + 4) as u64
-}
-
 impl Fields {
-    /// The fields in the 28 bytes that remain of a record.
+    /// The fields in the 28 bytes that remain of a record. No other bytes spell them.
     pub fn from_rest(rest: &[u8]) -> Option<Fields>
-        ensures { MatchOption result (length rest.now ≢ 28) (λ f. (length rest.now ≡ 28) × (f ≡ fields_at rest.now 0)) }
+        ensures answer { SomeIff result (length rest.now ≡ 28) (fields_at rest.now 0) }
+        ensures only_spelling { IfSome result (λ fields. rest.now ≡ field_bytes fields) }
     {
-        if rest.len() != 28 {
+        let (code, rest) = rest.split_first_chunk::<4>()?;
+        let (date, rest) = rest.split_first_chunk::<4>()?;
+        let (units, rest) = rest.split_first_chunk::<4>()?;
+        let (money, rest) = rest.split_first_chunk::<8>()?;
+        let (spare, []) = rest.split_first_chunk::<8>()? else {
             return None;
-        }
+        };
         Some(Fields {
-            code: four(rest, 0),
-            date: four(rest, 4),
-            units: four(rest, 8),
-            money: eight(rest, 12),
-            spare: eight(rest, 20),
+            code: u32::from_be_bytes(*code),
+            date: u32::from_be_bytes(*date),
+            units: u32::from_be_bytes(*units),
+            money: u64::from_be_bytes(*money),
+            spare: u64::from_be_bytes(*spare),
         })
+    }
+
+    /// The contract that the fields state.
+    pub fn contract(self) -> Contract
+        ensures { result ≡ contract_in self }
+    {
+        Contract {
+            code: self.code,
+            settlement: self.date,
+            quantity: self.units,
+            money: self.money,
+        }
+    }
+}
+
+impl From<Contract> for Fields {
+    ghost from_gives = { λ contract fields. fields ≡ contract_fields contract };
+
+    fn from(contract: Contract) -> Fields {
+        Fields {
+            code: contract.code,
+            date: contract.settlement,
+            units: contract.quantity,
+            money: contract.money,
+            ..Fields::default()
+        }
     }
 }

@@ -1,13 +1,18 @@
 // Bytes to a record.
 ghost use Rattle.record.specs.WellFormed.{by_letter, reading, OnlySpelling};
-ghost use Rattle.std.specs.Prelude.{◌≡◌};
+ghost use Rattle.record.specs.Writing.{fields_from, letter_of};
+ghost use Rattle.std.specs.Prelude.{◌≡◌, IfSome};
 
 use crate::entry::Record;
 use crate::fields::Fields;
+use crate::quote::Quote;
 
-/// The record of this letter with these fields, unless the letter is unknown or a field that it does not use is not zero.
-fn by_letter(letter: u8, fields: &Fields) -> Option<Record>
-    ensures { result ≡ by_letter letter fields.now }
+/// The record of this letter with these fields, unless the letter is unknown or a field that it does not use is
+/// not zero.
+fn by_letter(letter: u8, fields: Fields) -> Option<Record>
+    ensures answer { result ≡ by_letter letter fields }
+    ensures same_letter { IfSome result (λ said. letter ≡ letter_of said) }
+    ensures same_fields { IfSome result (λ said. fields ≡ fields_from said) }
 {
     let Fields {
         code,
@@ -15,27 +20,20 @@ fn by_letter(letter: u8, fields: &Fields) -> Option<Record>
         units,
         money,
         spare,
-    } = *fields;
+    } = fields;
     match letter {
-        b'P' if date == 0 && money == 0 && spare == 0 => Some(Record::Price { code, price: units }),
+        b'P' if date == 0 && money == 0 && spare == 0 => Some(Record::Price(Quote {
+            code,
+            price: units,
+        })),
         b'L' if date == 0 && units == 0 && money == 0 && spare == 0 => Some(Record::Listing {
             code,
         }),
         b'O' if code == 0 && units == 0 && money == 0 && spare == 0 => Some(Record::Opening {
             date,
         }),
-        b'B' if spare == 0 => Some(Record::Bought {
-            code,
-            settlement: date,
-            quantity: units,
-            money,
-        }),
-        b'S' if spare == 0 => Some(Record::Sold {
-            code,
-            settlement: date,
-            quantity: units,
-            money,
-        }),
+        b'B' if spare == 0 => Some(Record::Bought(fields.contract())),
+        b'S' if spare == 0 => Some(Record::Sold(fields.contract())),
         b'K' if code == 0 && date == 0 && units == 0 && money == 0 && spare == 0 => Some(
             Record::Strike,
         ),
@@ -53,9 +51,7 @@ impl Record {
         let [letter, 0, 0, 0, rest @ ..] = bytes else {
             return None;
         };
-        match Fields::from_rest(rest) {
-            Some(fields) => by_letter(*letter, &fields),
-            None => None,
-        }
+        let fields = Fields::from_rest(rest)?;
+        by_letter(*letter, fields)
     }
 }

@@ -1,15 +1,17 @@
 // A record to its bytes.
 ghost use Rattle.record.specs.Writing.{letter_of, fields_from, spelled, spelling};
-ghost use Rattle.record.specs.WellFormed.{reading};
+ghost use Rattle.record.specs.WellFormed.{by_letter, reading};
 ghost use Rattle.std.specs.Prelude.{◌≡◌, Some};
 
 use crate::entry::Record;
 use crate::fields::Fields;
+use crate::quote::Quote;
 
 /// The letter, three zero bytes and the fields.
 fn spell(letter: u8, fields: Fields) -> [u8; 32]
     ensures { result ≡ spelled letter fields }
 {
+    // The places are those of the format, line by line; a cursor over the bytes would hide them.
     let mut bytes = [0; 32];
     bytes[0] = letter;
     bytes[4..8].copy_from_slice(&fields.code.to_be_bytes());
@@ -26,43 +28,36 @@ impl Record {
         ensures { result ≡ letter_of self }
     {
         match self {
-            Record::Price { .. } => b'P',
+            Record::Price(_) => b'P',
             Record::Listing { .. } => b'L',
             Record::Opening { .. } => b'O',
-            Record::Bought { .. } => b'B',
-            Record::Sold { .. } => b'S',
+            Record::Bought(_) => b'B',
+            Record::Sold(_) => b'S',
             Record::Strike => b'K',
         }
     }
 
     /// The record's fields, zero where its letter uses none.
     fn fields(self) -> Fields
-        ensures { result ≡ fields_from self }
+        ensures answer { result ≡ fields_from self }
+        ensures reads_back { by_letter (letter_of self) result ≡ Some self }
     {
-        let (code, date, units, money) = match self {
-            Record::Price { code, price } => (code, 0, price, 0),
-            Record::Listing { code } => (code, 0, 0, 0),
-            Record::Opening { date } => (0, date, 0, 0),
-            Record::Bought {
+        match self {
+            Record::Price(Quote { code, price }) => Fields {
                 code,
-                settlement,
-                quantity,
-                money,
-            } => (code, settlement, quantity, money),
-            Record::Sold {
+                units: price,
+                ..Fields::default()
+            },
+            Record::Listing { code } => Fields {
                 code,
-                settlement,
-                quantity,
-                money,
-            } => (code, settlement, quantity, money),
-            Record::Strike => (0, 0, 0, 0),
-        };
-        Fields {
-            code,
-            date,
-            units,
-            money,
-            spare: 0,
+                ..Fields::default()
+            },
+            Record::Opening { date } => Fields {
+                date,
+                ..Fields::default()
+            },
+            Record::Bought(contract) | Record::Sold(contract) => contract.into(),
+            Record::Strike => Fields::default(),
         }
     }
 

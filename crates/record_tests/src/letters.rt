@@ -1,20 +1,27 @@
-use record::{Record, jaswirku_check_record};
+use record::{Contract, Quote, Record, jaswirku_check_record};
 use std::process::Abort;
+
+const CONTRACT: Contract = Contract {
+    code: 101,
+    settlement: 20090406,
+    quantity: 100,
+    money: 101_000,
+};
 
 /// Whether each byte of the record may be changed: `?` it may, `0` it has to be zero, `L` it is the letter.
 fn spoiled_only_where_unused(rt: &impl Abort, said: Record, used: &[u8; 32]) {
     let bytes = said.write();
     assert_eq!(rt; Record::read(&bytes), Some(said), "reads back");
     assert_eq!(rt; jaswirku_check_record(&bytes), 0);
-    for place in 0..32 {
+    for (place, mark) in used.iter().enumerate() {
         let mut spoiled = bytes;
-        spoiled[place] = bytes[place] ^ 1;
+        spoiled[place] ^= 1;
         let read = Record::read(&spoiled);
         assert_ne!(rt; read, Some(said), "one spelling only");
-        assert_eq!(rt; read.is_some(), used[place] == b'?', "a spoiled byte");
+        assert_eq!(rt; read.is_some(), *mark == b'?', "a spoiled byte");
         assert_eq!(rt;
             jaswirku_check_record(&spoiled) == 0,
-            used[place] == b'?',
+            *mark == b'?',
             "for a C host"
         );
     }
@@ -24,10 +31,10 @@ fn spoiled_only_where_unused(rt: &impl Abort, said: Record, used: &[u8; 32]) {
 fn prices_and_listings(rt: HostRuntime) {
     spoiled_only_where_unused(
         &rt,
-        Record::Price {
+        Record::Price(Quote {
             code: 101,
             price: 990,
-        },
+        }),
         b"L000????0000????0000000000000000",
     );
     spoiled_only_where_unused(
@@ -49,18 +56,8 @@ fn days(rt: HostRuntime) {
 
 #[test]
 fn contracts(rt: HostRuntime) {
-    let bought = Record::Bought {
-        code: 101,
-        settlement: 20090406,
-        quantity: 100,
-        money: 101_000,
-    };
-    let sold = Record::Sold {
-        code: 101,
-        settlement: 20090406,
-        quantity: 100,
-        money: 101_000,
-    };
+    let bought = Record::Bought(CONTRACT);
+    let sold = Record::Sold(CONTRACT);
     spoiled_only_where_unused(&rt, bought, b"L000????????????????????00000000");
     spoiled_only_where_unused(&rt, sold, b"L000????????????????????00000000");
 }
@@ -69,13 +66,7 @@ fn contracts(rt: HostRuntime) {
 fn bytes_of_a_contract(rt: HostRuntime) {
     let bytes =
         b"B\0\0\0\0\0\0\x65\x01\x32\x8e\x26\0\0\0\x64\0\0\0\0\0\x01\x8a\x88\0\0\0\0\0\0\0\0";
-    let bought = Record::Bought {
-        code: 101,
-        settlement: 20090406,
-        quantity: 100,
-        money: 101_000,
-    };
-    assert_eq!(rt; Record::read(bytes), Some(bought));
+    assert_eq!(rt; Record::read(bytes), Some(Record::Bought(CONTRACT)));
 }
 
 #[test]

@@ -1,33 +1,14 @@
--- How prices move from one to the next, and the move that covers 99 in 100 of them.
-use Rattle.std.specs.Prelude.{◌≡◌, ℕ, ◌+◌, ◌-◌, ◌<◌, List, [], ◌∷◌, map, length, Some, Ok, Err, vec_items, Result, Vec, slice_index, slice_index_or}
+-- The move that covers 99 in 100 of the moves from one price to the next.
+use Rattle.std.specs.Prelude.{◌≡◌, ℕ, ◌+◌, ◌-◌, ◌<◌, List, map, length, Some, Ok, Err, vec_items, Result, Vec, slice_index, slice_index_or}
 use Rattle.std.specs.declared.alloc.Global.{Global}
 use Rattle.figure.specs.declared.kinds.Ratio.{Ratio}
 use Rattle.figure.specs.Orders.{ratio_upto}
 use Rattle.figure.specs.Refusal.{denial}
 use Rattle.figure.specs.Cover.{Covers}
+use Rattle.market.specs.Moves.{moves, parts}
 use Rattle.statement.specs.declared.moves.CoveringMove.{CoveringMove}
 use Rattle.statement.specs.declared.moves.NoMove.{NoMove}
 use Rattle.statement.specs.declared.moves.NoMove.TheVariants.{TooFew, ZeroPrice, Cover, Memory}
-
--- a move: how far, over the price that it starts from
-abbrev pub Move : Type 0
-Move = ℕ × ℕ
-
-abbrev pub move_between : ℕ → ℕ → Move
-move_between earlier later = ((later - earlier) + (earlier - later), earlier)
-
--- the moves of neighbouring prices
-abbrev pub moves_from : ℕ → List ℕ → List Move
-moves_from p [] = []
-moves_from p (q ∷ qs) = move_between p q ∷ moves_from q qs
-
-abbrev pub moves : List ℕ → List Move
-moves [] = []
-moves (p ∷ ps) = moves_from p ps
-
--- a ratio as a move
-abbrev pub parts : Ratio → Move
-parts r = (r.numerator, r.denominator)
 
 -- a price that is not the last is zero, so that a move starts from it
 abbrev pub ZeroInside : List ℕ → Type 0

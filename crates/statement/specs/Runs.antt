@@ -1,20 +1,21 @@
--- A run of prices, each with its issue's code.
-use Rattle.std.specs.Prelude.{◌≡◌, ℕ, cond, List, [], ◌∷◌, map, length, Some, None, Ok, Err, Option, ◌==◌}
-use Rattle.statement.specs.declared.runs.Quote.{Quote}
-use Rattle.statement.specs.declared.runs.ListedRun.{ListedRun}
-use Rattle.statement.specs.declared.runs.ListedRun.TheVariants.{Row, OtherIssue, NoRow}
+-- What a listing makes of the run of prices before it.
+use Rattle.std.specs.Prelude.{◌≡◌, ℕ, not, List, map, length, find, Some, None, Ok, Err, Option, Result, ◌==◌}
+use Rattle.record.specs.declared.quote.Quote.{Quote}
+use Rattle.market.specs.Rows.{prices}
+use Rattle.statement.specs.declared.runs.ListedRow.{ListedRow}
+use Rattle.statement.specs.declared.runs.NoRow.{NoRow}
+use Rattle.statement.specs.declared.runs.NoRow.TheVariants.{OtherIssue, NoMove, Memory}
 use Rattle.statement.specs.Movement.{IsCoveringMove}
 
--- the first code other than the given one
+-- the first code of the run other than the given one
 abbrev pub other_issue : ℕ → List Quote → Option ℕ
-other_issue code [] = None
-other_issue code (q ∷ run) = cond (q.code == code) (other_issue code run) (Some q.code)
+other_issue code run = find (λ c. not (c == code)) (map (λ (q : Quote). q.code) run)
 
-abbrev pub prices : List Quote → List ℕ
-prices run = map (λ (q : Quote). q.price) run
-
--- what a listing of a code makes of the run before it
-abbrev pub Listed : List Quote → ℕ → ListedRun → Type 0
-Listed run code (OtherIssue other) = other_issue code run ≡ Some other
-Listed run code (Row count covering) = (other_issue code run ≡ None) × (count ≡ length run) × IsCoveringMove (prices run) (Ok covering)
-Listed run code (NoRow count cause) = (other_issue code run ≡ None) × (count ≡ length run) × IsCoveringMove (prices run) (Err cause)
+-- what a listing of a code makes of the run before it; want of memory can come of any run
+abbrev pub Listed : List Quote → ℕ → Result ListedRow NoRow → Type 0
+Listed run code (Ok row) =
+    (other_issue code run ≡ None) × (row.prices ≡ length run) × IsCoveringMove (prices run) (Ok row.covering)
+Listed run code (Err (OtherIssue other)) = other_issue code run ≡ Some other
+Listed run code (Err (NoMove count cause)) =
+    (other_issue code run ≡ None) × (count ≡ length run) × IsCoveringMove (prices run) (Err cause)
+Listed run code (Err (Memory e)) = Unit {0}

@@ -3,23 +3,21 @@ ghost use Rattle.std.specs.Prelude.{◌≡◌, ◌+◌, ◌*◌, ◌/◌};
 
 use crate::moves::{CoveringMove, NoMove};
 use crate::numbers::{Date, Grouped, Percentage};
-use crate::runs::ListedRun;
+use crate::runs::{ListedRow, NoRow};
 use figure::{FigureFault, Ratio};
-use record::Record;
+use record::{Contract, Quote, Record};
 use std::fmt;
 
 /// A contract in words, after what was done.
 fn write_contract<W: fmt::Write>(
     f: &mut fmt::Formatter<W>,
     done: &str,
-    code: u32,
-    settlement: u32,
-    quantity: u32,
-    money: u64,
+    contract: Contract,
 ) -> fmt::Result {
-    let quantity = Grouped(quantity as u64);
-    let money = Grouped(money);
-    let settlement = Date(settlement);
+    let code = contract.code;
+    let quantity = Grouped(u64::from(contract.quantity));
+    let money = Grouped(contract.money);
+    let settlement = Date(contract.settlement);
     write!(
         f,
         "{done} {quantity} of issue {code} for {money} yen, settling {settlement}"
@@ -33,8 +31,8 @@ pub struct InWords(pub Record);
 impl fmt::Display for InWords {
     fn fmt<W: fmt::Write>(&self, f: &mut fmt::Formatter<W>) -> fmt::Result {
         match self.0 {
-            Record::Price { code, price } => {
-                let price = Grouped(price as u64);
+            Record::Price(Quote { code, price }) => {
+                let price = Grouped(u64::from(price));
                 write!(f, "price of issue {code}: {price} yen")
             }
             Record::Listing { code } => write!(f, "list issue {code}"),
@@ -42,18 +40,8 @@ impl fmt::Display for InWords {
                 let date = Date(date);
                 write!(f, "open the day {date}")
             }
-            Record::Bought {
-                code,
-                settlement,
-                quantity,
-                money,
-            } => write_contract(f, "bought", code, settlement, quantity, money),
-            Record::Sold {
-                code,
-                settlement,
-                quantity,
-                money,
-            } => write_contract(f, "sold", code, settlement, quantity, money),
+            Record::Bought(contract) => write_contract(f, "bought", contract),
+            Record::Sold(contract) => write_contract(f, "sold", contract),
             Record::Strike => write!(f, "strike the day and serve its notice"),
         }
     }
@@ -80,7 +68,7 @@ impl fmt::Display for Malformed {
 fn hundredths_of_percent(ratio: Ratio) -> u64
     ensures { result ≡ (ratio.numerator * 20000 + ratio.denominator) / (2 * ratio.denominator) }
 {
-    (ratio.numerator as u64 * 20_000 + ratio.denominator) / (2 * ratio.denominator)
+    (u64::from(ratio.numerator) * 20_000 + ratio.denominator) / (2 * ratio.denominator)
 }
 
 impl fmt::Display for CoveringMove {
@@ -102,28 +90,39 @@ impl fmt::Display for NoMove {
         match *self {
             NoMove::TooFew => write!(f, "two prices make a move"),
             NoMove::ZeroPrice => write!(f, "a move starts from a price of zero"),
-            NoMove::Cover(FigureFault::Percent) => write!(
-                f,
-                "refusal 27: a percent outside 1 to 100"
-            ),
-            NoMove::Cover(FigureFault::Window) => write!(f, "refusal 28: more than 4,096 moves"),
+            NoMove::Cover(fault) => {
+                let number = fault.number();
+                let cause = match fault {
+                    FigureFault::Percent => "a percent outside 1 to 100",
+                    FigureFault::Window => "more than 4,096 moves",
+                };
+                write!(f, "refusal {number}: {cause}")
+            }
             NoMove::Memory => write!(f, "no memory is left"),
         }
     }
 }
 
-impl fmt::Display for ListedRun {
+impl fmt::Display for ListedRow {
+    fn fmt<W: fmt::Write>(&self, f: &mut fmt::Formatter<W>) -> fmt::Result {
+        let prices = self.prices;
+        let covering = self.covering;
+        write!(f, "row of {prices} prices: {covering}")
+    }
+}
+
+impl fmt::Display for NoRow {
     fn fmt<W: fmt::Write>(&self, f: &mut fmt::Formatter<W>) -> fmt::Result {
         match *self {
-            ListedRun::Row { prices, covering } => write!(f, "row of {prices} prices: {covering}"),
-            ListedRun::OtherIssue { code } => write!(
+            NoRow::OtherIssue { code } => write!(
                 f,
                 "no row: its run holds a price of issue {code}"
             ),
-            ListedRun::NoRow { prices, cause } => write!(
+            NoRow::NoMove { prices, cause } => write!(
                 f,
                 "no covering move (prices in its run: {prices}): {cause}"
             ),
+            NoRow::Memory(e) => write!(f, "{e}"),
         }
     }
 }

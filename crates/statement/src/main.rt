@@ -8,8 +8,8 @@ mod runs;
 
 use anyhow::anyhow;
 use lines::{InWords, Malformed};
-use record::Record;
-use runs::{Quote, listed_run};
+use record::{Quote, Record};
+use runs::{NoRow, listed_run};
 use std::io::Read;
 use std::process::ExitCode;
 use std::{env, fs, io};
@@ -31,11 +31,14 @@ fn print_record(
     let words = InWords(said);
     println!(rt; "record {index}: {words}")?;
     match said {
-        Record::Price { code, price } => run.push(Quote { code, price })?,
+        Record::Price(quote) => run.push(quote)?,
         Record::Listing { code } => {
-            let row = listed_run(rt.alloc(), run.as_slice(), code)?;
+            match listed_run(rt.alloc(), run, code) {
+                Ok(row) => println!(rt; "    {row}")?,
+                Err(NoRow::Memory(e)) => return Err(e.into()),
+                Err(cause) => println!(rt; "    {cause}")?,
+            }
             run.clear();
-            println!(rt; "    {row}")?;
         }
         _ => run.clear(),
     }

@@ -1,7 +1,7 @@
 // The covering move of a run of prices.
 ghost use Rattle.statement.specs.Movement.{RatiosOf, IsCoveringMove};
 ghost use Rattle.statement.specs.declared.moves.NoMove.TheVariants.{Memory, Cover};
-ghost use Rattle.std.specs.Prelude.{◌≡◌, ◌+◌, ◌<◌};
+ghost use Rattle.std.specs.Prelude.{◌≡◌};
 
 use figure::{FigureFault, Ratio, cover};
 use std::alloc::{AllocError, AllocFailed, Global};
@@ -37,14 +37,6 @@ impl From<FigureFault> for NoMove {
     }
 }
 
-impl From<AllocError> for NoMove {
-    ghost from_gives = { λ _ r. r ≡ Memory };
-
-    fn from(_e: AllocError) -> NoMove {
-        NoMove::Memory
-    }
-}
-
 impl<T: Drop> From<AllocFailed<T>> for NoMove {
     ghost from_gives = { λ _ r. r ≡ Memory };
 
@@ -58,12 +50,17 @@ fn ratios(heap: Global, prices: &[u32]) -> Result<Vec<Ratio>, NoMove>
     ensures { RatiosOf prices.now result }
 {
     let mut ratios = Vec::new(heap);
-    for i in 0..prices.len().saturating_sub(1) {
-        let earlier = prices[i];
-        let Some(ratio) = Ratio::new(prices[i + 1].abs_diff(earlier) as u64, earlier as u64) else {
+    let [first, rest @ ..] = prices else {
+        return Ok(ratios);
+    };
+    let mut earlier = *first;
+    for later in rest {
+        let far = u64::from(later.abs_diff(earlier));
+        let Some(ratio) = Ratio::new(far, u64::from(earlier)) else {
             return Err(NoMove::ZeroPrice);
         };
         ratios.push(ratio)?;
+        earlier = *later;
     }
     Ok(ratios)
 }
@@ -73,14 +70,11 @@ pub fn covering_move(heap: Global, prices: &[u32]) -> Result<CoveringMove, NoMov
     ensures { IsCoveringMove prices.now result }
 {
     let ratios = ratios(heap, prices)?;
-    let days = ratios.len();
-    match cover(ratios.as_slice(), 99)? {
-        None => Err(NoMove::TooFew),
-        Some((place, not_above)) => Ok(CoveringMove {
-            ratio: ratios[place],
-            place,
-            not_above,
-            days,
-        }),
-    }
+    let (place, not_above) = cover(&ratios, 99)?.ok_or(NoMove::TooFew)?;
+    Ok(CoveringMove {
+        ratio: ratios[place],
+        place,
+        not_above,
+        days: ratios.len(),
+    })
 }

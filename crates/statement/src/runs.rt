@@ -1,70 +1,61 @@
 // A run of price records, and the row that a listing makes of it.
-ghost use Rattle.statement.specs.Runs.{other_issue, prices, Listed};
-ghost use Rattle.std.specs.Prelude.{◌≡◌, IfOk};
+ghost use Rattle.statement.specs.Runs.{other_issue, Listed};
+ghost use Rattle.statement.specs.declared.runs.NoRow.TheVariants.{Memory};
+ghost use Rattle.std.specs.Prelude.{◌≡◌};
 
 use crate::moves::{CoveringMove, NoMove, covering_move};
+use record::Quote;
 use std::alloc::{AllocError, Global};
 
-/// A price of an issue.
+/// The row that a listing makes of the run of prices before it.
 #[derive(Clone, Copy)]
-pub struct Quote {
-    pub code: u32,
-    pub price: u32,
+pub struct ListedRow {
+    /// How many prices the run has.
+    pub prices: usize,
+    pub covering: CoveringMove,
 }
 
-/// What a listing makes of the run of prices before it.
+/// Why a listing makes no row.
 #[derive(Clone, Copy)]
-pub enum ListedRun {
-    Row {
-        prices: usize,
-        covering: CoveringMove,
-    },
-    OtherIssue {
-        code: u32,
-    },
-    NoRow {
-        prices: usize,
-        cause: NoMove,
-    },
+pub enum NoRow {
+    /// The run holds a price of another issue, the first of these.
+    OtherIssue { code: u32 },
+    /// So many prices have no covering move.
+    NoMove { prices: usize, cause: NoMove },
+    Memory(AllocError),
+}
+
+impl From<AllocError> for NoRow {
+    ghost from_gives = { λ e r. r ≡ Memory e };
+
+    fn from(e: AllocError) -> NoRow {
+        NoRow::Memory(e)
+    }
 }
 
 /// The first code in the run that is not the given one.
 fn other_issue(run: &[Quote], code: u32) -> Option<u32>
     ensures { result ≡ other_issue code run.now }
 {
-    for quote in run {
-        if quote.code != code {
-            return Some(quote.code);
-        }
-    }
-    None
-}
-
-/// The run's prices alone.
-fn prices_of(heap: Global, run: &[Quote]) -> Result<Vec<u32>, AllocError>
-    ensures { IfOk result (λ v. v.items ≡ prices run.now) }
-{
-    let mut prices = Vec::new(heap);
-    for quote in run {
-        prices.push(quote.price)?;
-    }
-    Ok(prices)
+    run.iter()
+        .map(|quote| quote.code)
+        .find(|named| *named != code)
 }
 
 /// What the run before a listing of this code makes.
-pub fn listed_run(heap: Global, run: &[Quote], code: u32) -> Result<ListedRun, AllocError>
-    ensures { IfOk result (Listed run.now code) }
+pub fn listed_run(heap: Global, run: &[Quote], code: u32) -> Result<ListedRow, NoRow>
+    ensures { Listed run.now code result }
 {
     if let Some(code) = other_issue(run, code) {
-        return Ok(ListedRun::OtherIssue { code });
+        return Err(NoRow::OtherIssue { code });
     }
-    let prices = prices_of(heap, run)?;
-    match covering_move(heap, prices.as_slice()) {
-        Ok(covering) => Ok(ListedRun::Row {
+    let prices: Vec<u32> = run.iter().map(|quote| quote.price).collect(heap)?;
+    match covering_move(heap, &prices) {
+        Ok(covering) => Ok(ListedRow {
             prices: prices.len(),
             covering,
         }),
-        Err(cause) => Ok(ListedRun::NoRow {
+        Err(cause) => Err(NoRow::NoMove {
             prices: prices.len(),
             cause,
         }),

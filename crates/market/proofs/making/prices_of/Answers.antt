@@ -1,18 +1,11 @@
-use Rattle.std.proofs.Common.{ℕ, List, [], ◌∷◌, ◌++◌, get_or, sym, ap, ◌∙◌, arith}
-use Rattle.std.proofs.lemmas.List.{map_more, take_all}
-use Rattle.market.specs.declared.quote.Quote.{Quote}
-use Rattle.market.specs.Designation.{blank}
-use Rattle.market.specs.Rows.{prices}
+use Rattle.std.proofs.Common.{rules}
+use Rattle.std.proofs.lemmas.Iterator.{YieldsList-from_slice, YieldsList-from_map}
+use Rattle.std.proofs.lemmas.Iterator.Adapters.{items_from_extend}
+use Rattle.record.specs.declared.quote.Quote.{Quote}
 use Rattle.market.proofs.making.prices_of.Goals as goal
 
-pub loop-quote-preserved : goal.loop-quote-preserved
-loop-quote-preserved c = (
-  c.push_reserved.ensures.items
-      ∙ ap (λ (l : List ℕ). l ++ (get_or c.args.run.now c.loop-quote.quote-index blank).price ∷ []) c.loop-quote.invariant.0
-      ∙ sym (map_more (λ (q : Quote). q.price) c.args.run.now c.loop-quote.quote-index blank c.loop-quote-test.true),
-  omega arith,
-  omega arith,
-)
-
 pub returns : goal.returns
-returns c = (c.loop-quote.invariant.0 ∙ ap prices (take_all c.loop-quote.quote-index c.args.run.now c.loop-quote-test.false), c.loop-quote.invariant.2)
+returns c =
+    let h = items_from_extend c.extend.result c.extend.ensures.ran
+    (YieldsList-from_map _ (λ (q : Quote). q.price) (YieldsList-from_slice c.args.run.now cc) c.map.ensures.closure (λ x r q k. search rules)) in
+    search rules

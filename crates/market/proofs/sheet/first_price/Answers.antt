@@ -1,11 +1,12 @@
-use Rattle.std.proofs.Common.{◌/◌, length, Some, None, sym, ◌∙◌}
-use Rattle.market.proofs.Sheets.{record_more}
+use Rattle.std.proofs.Common.{List, ℕ, rules}
+use Rattle.std.specs.Iterator.Runs.{ItemsMapTo}
+use Rattle.market.specs.Sheet.{price_in, whole_records}
+use Rattle.market.proofs.Found.{first_given}
 use Rattle.market.proofs.sheet.first_price.Goals as goal
 
-pub returns-in-Some : goal.returns-in-Some
-returns-in-Some c =
-    sym (record_more c.args.bytes.now c.args.code (length c.args.bytes.now / 32) c.loop-i.i (Some c.in-Some.price) c.loop-i-test.true c.in-Some.ensures) ∙ c.loop-i.invariant
-
-pub loop-i-preserved : goal.loop-i-preserved
-loop-i-preserved c =
-    sym (record_more c.args.bytes.now c.args.code (length c.args.bytes.now / 32) c.loop-i.i None c.loop-i-test.true c.in_default.ensures) ∙ c.loop-i.invariant
+pub returns : goal.returns
+returns c =
+    let run = c.find_map.ensures.runs in
+    let records : List (List ℕ) = whole_records c.args.bytes.now in
+    let items : ItemsMapTo run.0 (λ r. r.now) records = search (rules, c.iter.ensures.runs) in
+    first_given (λ r. r.now) (λ r. price_in r c.args.code) _ _ (λ a r q called. search rules) run.0 records _ items run.2

@@ -1,11 +1,25 @@
-use Rattle.std.proofs.Common.{vec_items, ◌∙◌, arith}
-use Rattle.statement.proofs.Moving.{ratios_more, ratios_all}
+use Rattle.std.proofs.Common.{◌≡◌, ◌+◌, ◌-◌, ◌<◌, length, get_or, take, drop, rules, arith, length-drop, ◌∙◌, ap}
+use Rattle.std.proofs.lemmas.List.{take_all, get_or-drop}
+use Rattle.market.specs.Moves.{moves, move_between, parts}
+use Rattle.market.proofs.Moving.{length-moves}
+use Rattle.statement.proofs.Moving.{ratios_more}
 use Rattle.statement.proofs.moves.ratios.Goals as goal
 
-pub loop-i-preserved : goal.loop-i-preserved
-loop-i-preserved c =
-    let made = c.in-Some.ensures in
-    ratios_more c.args.prices.now (vec_items c.loop-i.ratios) (vec_items c.push.new.self) c.in-Some.ratio c.loop-i.i (omega arith) (made.0 ∙ c.abs_diff.ensures) made.1 c.loop-i.invariant c.in_ok-push.ensures.items
+pub loop-later-preserved : goal.loop-later-preserved
+loop-later-preserved c =
+    let ps = c.args.prices.now in
+    let k = c.loop-later.later-index in
+    let rest : take (length ps - 1) (drop 1 ps) ≡ drop 1 ps = search (rules, take_all) in
+    let within : k + 1 < length ps = omega (arith, rw rest at c.loop-later-test.true, length-drop 1 ps) in
+    let next : get_or (take (length ps - 1) (drop 1 ps)) k 0 ≡ get_or ps (k + 1) 0 = rw rest (get_or-drop 1 ps k 0 ∙ ap (λ i. get_or ps i 0) (omega arith)) in
+    let moved : parts c.in-Some.ratio ≡ move_between (get_or ps k 0) (get_or ps (k + 1) 0) = rw (← next, ← c.loop-later.invariant.before) (search rules) in
+    record {
+      so_far = rw c.in_ok-push.ensures.items (ratios_more ps c.loop-later.ratios.items c.in-Some.ratio k within moved c.loop-later.invariant.so_far);
+      before = next;
+    }
 
 pub returns : goal.returns
-returns c = ratios_all c.args.prices.now (vec_items c.loop-i.ratios) c.loop-i.i (omega arith) c.loop-i.invariant
+returns c =
+    let ps = c.args.prices.now in
+    let rest : take (length ps - 1) (drop 1 ps) ≡ drop 1 ps = search (rules, take_all) in
+    c.loop-later.invariant.so_far ∙ take_all c.loop-later.later-index (moves ps) (omega (arith, rw rest at c.loop-later-test.false, length-drop 1 ps, length-moves ps))

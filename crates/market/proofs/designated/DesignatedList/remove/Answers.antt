@@ -1,21 +1,14 @@
-use Rattle.std.proofs.Common.{List, Ok, vec_items, sym, ap, ◌∙◌, subst, arith}
-use Rattle.market.specs.declared.quote.Quote.{Quote}
-use Rattle.market.specs.Designation.{codes, once, RemoveLeaves}
-use Rattle.market.proofs.Codes.{once_removed}
-use Rattle.market.proofs.Designations.{remove_in_place}
+use Rattle.std.proofs.Common.{ap, ◌∙◌}
+use Rattle.market.specs.Designation.{prices_by_code}
+use Rattle.market.proofs.Designations.{remove_denied, removes}
 use Rattle.market.proofs.designated.DesignatedList.remove.Goals as goal
 
-pub invariant_of-self : goal.invariant_of-self
-invariant_of-self c =
-    let quotes : List Quote = vec_items c.args.self.now.quotes in
-    record {
-      room = omega arith;
-      few = omega arith;
-      once = ap (λ (l : List Quote). once (codes l)) c.remove.ensures.items ∙ once_removed quotes c.in-Some.place c.args.self.now.once;
-    }
+pub returns-clause-answer : goal.returns-clause-answer
+returns-clause-answer c = (removes c.self.inside.quotes.items _ (ap prices_by_code c.self.view_is) c.self.invariant.1.once c.args.code c.in-Some.place (cc)).0
 
-pub returns-in-Some : goal.returns-in-Some
-returns-in-Some c =
-    let quotes : List Quote = vec_items c.args.self.now.quotes in
-    let both = remove_in_place quotes c.args.code c.in-Some.place c.args.self.now.once c.in-Some.ensures in
-    record { answer = both.0; changed_at_the_code_alone = subst (λ (l : List Quote). RemoveLeaves c.args.code quotes l (Ok tt)) (sym c.remove.ensures.items) both.1 }
+pub returns-clause-changed_at_the_code_alone : goal.returns-clause-changed_at_the_code_alone
+returns-clause-changed_at_the_code_alone c =
+    ap prices_by_code c.remove.ensures.items ∙ (removes c.self.inside.quotes.items _ (ap prices_by_code c.self.view_is) c.self.invariant.1.once c.args.code c.in-Some.place (cc)).1
+
+pub returns-in_default-clause-answer : goal.returns-in_default-clause-answer
+returns-in_default-clause-answer c = remove_denied c.self.inside.quotes.items _ (ap prices_by_code c.self.view_is) c.self.invariant.1.once c.args.code (cc)

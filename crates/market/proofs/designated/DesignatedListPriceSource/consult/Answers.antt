@@ -1,13 +1,15 @@
-use Rattle.std.proofs.Common.{List, Some, vec_items, sym, refl, ap, ◌∙◌}
-use Rattle.std.proofs.lemmas.List.{get_or_read}
-use Rattle.market.specs.declared.quote.Quote.{Quote}
-use Rattle.market.specs.Designation.{blank}
-use Rattle.market.proofs.Designations.{standing}
+use Rattle.std.proofs.Common.{◌≡◌, ℕ, List, ap, sym, ◌∙◌, rules}
+use Rattle.std.specs.FinMap.{get}
+use Rattle.std.specs.List.{find}
+use Rattle.std.specs.Option.{option_map, option_copied}
+use Rattle.record.specs.declared.quote.Quote.{Quote}
+use Rattle.market.specs.Designation.{prices_by_code}
+use Rattle.market.proofs.Designations.{get-prices_by_code, is_of}
 use Rattle.market.proofs.designated.DesignatedListPriceSource.consult.Goals as goal
 
-pub returns-in-Some : goal.returns-in-Some
-returns-in-Some c =
-    let quotes : List Quote = vec_items c.args.self.now.quotes in
-    let s = c.in-Some.ensures in
-    let read = get_or_read quotes c.in-Some.place c.index.result.now s.within c.index.ensures blank in
-    record { answer = ap (λ (q : Quote). Some q.price) read ∙ sym (standing quotes c.args.code c.in-Some.place s); meaning_stays = refl }
+pub returns-clause-answer : goal.returns-clause-answer
+returns-clause-answer c =
+    let price : Quote → ℕ = λ q. q.price in
+    let priced : c.map.result ≡ option_map price (option_copied c.quote_of.result) = search rules in
+    let found : option_copied c.quote_of.result ≡ find (is_of c.args.code) c.self.inside.quotes.items = cc in
+    priced ∙ ap (option_map price) found ∙ sym (get-prices_by_code _ c.args.code) ∙ ap (λ (quotes : List Quote). get (prices_by_code quotes) c.args.code) c.self.view_is

@@ -1,33 +1,26 @@
-use Rattle.std.proofs.Common.{◌≡◌, ℕ, ◌*◌, ◌≤◌, List, map, Some, vec_items, sym, ap, ◌∙◌, subst, arith}
-use Rattle.std.proofs.lemmas.Bool.{ltb-false}
-use Rattle.market.specs.Moves.{moves, move_between, parts}
-use Rattle.market.specs.Rows.{newest}
-use Rattle.market.proofs.Sound.{Sound, faultless}
-use Rattle.market.proofs.Covered.{sound_row, ratio_counts}
-use Rattle.market.proofs.Sliding.{sound_slid, same_slid}
+use Rattle.std.proofs.Common.{arith, sym, ap, ◌≡◌, None, Some}
+use Rattle.market.specs.Limits.{price_fault}
+use Rattle.market.specs.Moves.{move_between, parts}
+use Rattle.market.specs.Rows.{PriceRow, newest}
+use Rattle.market.specs.View.{row_of}
+use Rattle.market.proofs.Moving.{ratios_count}
+use Rattle.market.proofs.Sliding.{IsRow-slid, ratios_slid}
 use Rattle.market.proofs.row.Row.roll.Goals as goal
 
-pub slide-requires-2 : goal.slide-requires-2
-slide-requires-2 c =
-    let row = c.args.self.now in
-    let size = row.ratios.ok.0 in
-    record { room = (omega arith, omega arith); few = omega (arith, (ratio_counts row.code (vec_items row.prices) (sound_row row) (vec_items row.ratios) row.same).1) }
+pub slide-requires-2-clause-few : goal.slide-requires-2-clause-few
+slide-requires-2-clause-few c =
+    let size = ratios_count _ _ c.self.invariant.ratios in
+    omega (arith, c.self.invariant.is_row.count.1)
 
 pub invariant_of-self : goal.invariant_of-self
 invariant_of-self c =
-    let row = c.args.self.now in
-    let ps : List ℕ = vec_items row.prices in
-    let price = c.args.price in
-    let passed = faultless (Some (newest ps)) price (sym c.in_ok-test.ensures) in
-    let slow : price ≤ 2 * newest ps = ltb-false (2 * newest ps) price passed.1 in
-    let sound = subst (Sound row.code) (sym c.slide.ensures.items) (sound_slid row.code ps (sound_row row) price passed.0 slow) in
-    let ratio : parts c.ratio_between-ratio.result ≡ move_between (newest ps) price = c.ratio_between-ratio.ensures ∙ ap (λ (n : ℕ). move_between n price) c.newest.ensures in
-    let same = same_slid row.code ps (sound_row row) price passed.0 slow (vec_items row.ratios) c.ratio_between-ratio.result ratio row.same in
-    let size = c.slide.new.items.ok.0 in record {
-      coded = sound.coded;
-      count = (omega (arith, sound.count.0), omega (arith, sound.count.1));
-      limits = λ k h. sound.limits k (omega (arith, h));
-      pace = λ k h. sound.pace k (omega (arith, h));
-      same = ap (map parts) c.slide-2.ensures.items ∙ same ∙ ap moves (sym c.slide.ensures.items);
+    let row = row_of c.self.inside in
+    let seen : row.prices ≡ c.args.self.now.prices = ap (λ (r : PriceRow). r.prices) c.self.view_is in
+    let free : price_fault (Some (newest row.prices)) c.args.price ≡ None = rw seen (sym c.in_ok-test.ensures) in
+    let ratio : parts c.ratio_between-ratio.result ≡ move_between (newest row.prices) c.args.price = rw (seen, ← c.newest.ensures) c.ratio_between-ratio.ensures in
+    record {
+      is_row = rw c.slide.ensures.items (IsRow-slid row c.self.invariant.is_row c.args.price free);
+      ratios = rw (c.slide.ensures.items, c.slide-2.ensures.items)
+          (ratios_slid row c.self.invariant.is_row c.args.price free _ _ ratio c.self.invariant.ratios);
       room = (omega arith, omega arith);
     }

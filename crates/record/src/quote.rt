@@ -1,4 +1,4 @@
-// A price with its issue.
+// What a price says.
 
 /// A price of an issue.
 #[derive(Clone, Copy, PartialEq, Eq, Debug)]

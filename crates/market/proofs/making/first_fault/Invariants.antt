@@ -1,7 +1,0 @@
-use Rattle.std.proofs.Common.{◌≡◌, drop, None}
-use Rattle.market.specs.Limits.{first_fault}
-use Rattle.market.specs.Rows.{prices}
-use Rattle.market.proofs.making.first_fault.Given as goal
-
-abbrev pub invariant-loop-quote : goal.invariant-loop-quote
-invariant-loop-quote l = first_fault l.former (prices (drop l.quote-index l.run)) ≡ first_fault None (prices l.run)
