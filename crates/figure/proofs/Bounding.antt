@@ -1,14 +1,12 @@
 -- Enough of a window is not above a figure exactly when its cover is not.
-use Rattle.std.proofs.Common.{◌≡◌, ℕ, ◌*◌, ◌<◌, ◌≤◌, Bool, true, leb, List, [], ◌∷◌, length, Some, None, Ok, filter, Option, Result, sym, refl, ap, ◌∙◌, subst, ⊎_elim, mul-le-mul_right, arith, MatchOption}
+use Rattle.std.proofs.Common.{◌≡◌, ℕ, ◌*◌, ◌<◌, ◌≤◌, Bool, true, List, [], ◌∷◌, length, Some, None, filter, Option, sym, refl, ◌∙◌, subst, ⊎_elim, mul-le-mul_right, arith, MatchOption}
 use Rattle.std.specs.List.{ContainsAt as Has, AllByRecursion as All}
 use Rattle.std.proofs.ByRecursion.{all-has, All-get_or, all_kept_by, all_has_itself, kept_by_passes}
 use Rattle.std.proofs.lemmas.List.Sums.{length-filter}
 use Rattle.std.proofs.lemmas.Bool.{cases_Bool, both_ways, leb-true, le-leb}
-use Rattle.figure.specs.declared.fault.FigureFault.{FigureFault}
 use Rattle.figure.specs.Orders.{TotalOrder}
-use Rattle.figure.specs.Refusal.{denial, unless}
 use Rattle.figure.specs.Cover.{not_above, Reaches}
-use Rattle.figure.specs.Choice.{enough_upto, covering, cover_of, enough_answer, BoundedByCover}
+use Rattle.figure.specs.Choice.{enough_upto, covering, cover_of}
 use Rattle.figure.proofs.Counting.{count_by_le, not_above_le, highest, empty_if_none_reaches}
 use Rattle.figure.proofs.Choosing.{IsLowest, lowest_of_is, chosen_stands, all_from_kept}
 
@@ -52,12 +50,3 @@ module _ {F : Type 0} {upto : F → F → Bool} (o : TotalOrder upto) (window : 
 
     pub enough_exactly_from_cover : MatchOption (cover_of upto window percent) (length window ≡ 0) (λ y. enough_upto upto window percent s ≡ upto y s)
     enough_exactly_from_cover = bounded_by (cover_of upto window percent) (lowest_of_is o (covering upto window percent))
-
-    -- both clauses of the call that asks whether enough is not above s, past its refusals
-    pub enough_answers : None ≡ denial percent (length window) → (count : ℕ) → count ≡ not_above upto window s → (Ok (leb (percent * length window) (100 * count)) ≡ enough_answer upto window percent s) × BoundedByCover upto window percent s (Ok (leb (percent * length window) (100 * count)))
-    enough_answers allowed count counted =
-        let test : ℕ → Bool = λ n. leb (percent * length window) (100 * n) in
-        let tested : test count ≡ enough_upto upto window percent s = ap test counted in (
-          ap {B = Result Bool FigureFault} Ok tested ∙ ap (λ due. unless due (enough_upto upto window percent s)) allowed,
-          subst (λ (b : Bool). BoundedByCover upto window percent s (Ok b)) (sym tested) enough_exactly_from_cover,
-        )

@@ -2,8 +2,7 @@
 use Rattle.std.proofs.Common.{◌≡◌, ℕ, ◌<◌, Bool, true, List, length, get_or, Some, None, Ok, Option, sym, ◌∙◌, arith, MatchOption}
 use Rattle.std.proofs.lemmas.Bool.{and_from, and_parts}
 use Rattle.figure.specs.Orders.{TotalOrder}
-use Rattle.figure.specs.Refusal.{denial}
-use Rattle.figure.specs.Cover.{not_above, Covers, Answered, SameButPlace, FreeInPlaceOnly}
+use Rattle.figure.specs.Cover.{not_above, Covers, SameButPlace, FreeInPlaceOnly}
 use Rattle.figure.specs.Choice.{RanksWithChoice}
 use Rattle.figure.proofs.Counting.{not_above_le}
 use Rattle.figure.proofs.Choosing.{a_figure, answer_ranks_with_choice, none_chosen}
@@ -30,11 +29,10 @@ module _ {F : Type 0} {upto : F → F → Bool} (o : TotalOrder upto) (window : 
     lowest = λ k d h e. o.transitive _ _ _ (and_parts _ _ (same.0 d)).1 (p.lowest k d h e);
   }
 
-  -- the three clauses of the cover's call, past its refusals
-  pub answers : None ≡ denial percent (length window) → (r : Option (ℕ × ℕ)) → MatchOption r (length window ≡ 0) (λ b. Covers upto window percent b.0 b.1) → Answered upto window percent (Ok r) × FreeInPlaceOnly upto window percent (Ok r) × RanksWithChoice upto window percent (Ok r)
-  answers allowed None empty = ((sym allowed, empty), λ place count q. omega (arith, q.within), none_chosen upto window percent empty)
-  answers allowed (Some (place, count)) p = (
-    (sym allowed, p),
+  -- what else the cover's call promises, past its refusals
+  pub free_and_chosen : (r : Option (ℕ × ℕ)) → MatchOption r (length window ≡ 0) (λ b. Covers upto window percent b.0 b.1) → FreeInPlaceOnly upto window percent (Ok r) × RanksWithChoice upto window percent (Ok r)
+  free_and_chosen None empty = (λ place count q. omega (arith, q.within), none_chosen upto window percent empty)
+  free_and_chosen (Some (place, count)) p = (
     λ other n. (
       λ q. (q.within, others_alike (place, count) (other, n) (a_figure window (omega (arith, p.within))) p q),
       alike_answers (place, count) (other, n) p,

@@ -1,5 +1,5 @@
 -- What is known of the cover after each figure.
-use Rattle.std.proofs.Common.{◌≡◌, ℕ, ◌+◌, ◌<◌, ◌≤◌, Bool, true, false, List, length, get_or, Some, None, Option, sym, ap, ◌∙◌, subst, ⊎_elim, arith, IfSome, MatchOption}
+use Rattle.std.proofs.Common.{◌≡◌, ℕ, ◌+◌, ◌<◌, ◌≤◌, Bool, true, false, ◌⊎◌, List, length, get_or, Some, None, Option, sym, ap, ◌∙◌, ⊎_elim, arith, IfSome, MatchOption}
 use Rattle.std.proofs.lemmas.List.{get_or_read}
 use Rattle.std.proofs.lemmas.Bool.{true≢false}
 use Rattle.std.proofs.Math.Nat.{eq-or-lt_of_le}
@@ -26,6 +26,9 @@ SoFar upto window percent i (Some b) = Best upto window percent i b.0 b.1
 abbrev pub TooFew : {F : Type 0} → (F → F → Bool) → List F → ℕ → F → Type 0
 TooFew upto window percent x = Reaches window percent (not_above upto window x) → ⊥
 
+here_or_before : (k i : ℕ) → k < i + 1 → (k ≡ i) ⊎ (k < i)
+here_or_before k i h = eq-or-lt_of_le (omega (arith, h))
+
 module _ {F : Type 0} {upto : F → F → Bool} (o : TotalOrder upto) (window : List F) (percent : ℕ) where
   module _ (i : ℕ) (x : F) (within : i < length window) (read : x ≡ get_or window i x) where
     here : (d : F) → x ≡ get_or window i d
@@ -37,7 +40,7 @@ module _ {F : Type 0} {upto : F → F → Bool} (o : TotalOrder upto) (window : 
       within = omega arith;
       counted = λ d. counted ∙ ap (not_above upto window) (here d);
       enough = enough;
-      lowest = λ k d h e. ⊎_elim (λ eq. rw eq (upto_itself o (get_or window i d))) (λ lt. elsewhere b so beaten k d lt e) (eq-or-lt_of_le {n = k} {m = i} (omega (arith, h)));
+      lowest = λ k d h e. ⊎_elim (λ eq. rw eq (upto_itself o (get_or window i d))) (λ lt. elsewhere b so beaten k d lt e) (here_or_before k i h);
     } where
       elsewhere : (c : Option (ℕ × ℕ)) → SoFar upto window percent i c → Beaten upto window c x false → (k : ℕ) (d : F) → k < i → Reaches window percent (not_above upto window (get_or window k d)) → upto (get_or window i d) (get_or window k d) ≡ true
       elsewhere None s t k d lt e = absurd (s k d lt e)
@@ -56,12 +59,12 @@ module _ {F : Type 0} {upto : F → F → Bool} (o : TotalOrder upto) (window : 
           short (omega (arith, same, e))
 
       more : (c : Option (ℕ × ℕ)) → SoFar upto window percent i c → SoFar upto window percent (i + 1) c
-      more None s = λ k d h e. ⊎_elim (λ eq. not_here k d eq e) (λ lt. s k d lt e) (eq-or-lt_of_le {n = k} {m = i} (omega (arith, h)))
+      more None s = λ k d h e. ⊎_elim (λ eq. not_here k d eq e) (λ lt. s k d lt e) (here_or_before k i h)
       more (Some c) s = record {
         within = omega (arith, s.within);
         counted = s.counted;
         enough = s.enough;
-        lowest = λ k d h e. ⊎_elim (λ eq. absurd (not_here k d eq e)) (λ lt. s.lowest k d lt e) (eq-or-lt_of_le {n = k} {m = i} (omega (arith, h)));
+        lowest = λ k d h e. ⊎_elim (λ eq. absurd (not_here k d eq e)) (λ lt. s.lowest k d lt e) (here_or_before k i h);
       }
 
     -- the best so far is not above x
@@ -71,17 +74,13 @@ module _ {F : Type 0} {upto : F → F → Bool} (o : TotalOrder upto) (window : 
       within = omega (arith, so.within);
       counted = so.counted;
       enough = so.enough;
-      lowest = λ k d h e. ⊎_elim (λ eq. let known = beaten d in let at = here d in (cc)) (λ lt. so.lowest k d lt e) (eq-or-lt_of_le {n = k} {m = i} (omega (arith, h)));
+      lowest = λ k d h e. ⊎_elim (λ eq. let known = beaten d in let at = here d in (cc)) (λ lt. so.lowest k d lt e) (here_or_before k i h);
     }
 
   -- what is not above a figure that covers too little covers too little
   pub ruled_out : {B : Type 0} (at : B → F) (short : Option B) → IfSome short (λ s. TooFew upto window percent (at s)) → (x : F) (r : Bool) → MatchOption short (r ≡ false) (λ s. r ≡ upto x (at s)) → r ≡ true → TooFew upto window percent x
   ruled_out at None few x r out e = absurd (true≢false (sym e ∙ out))
   ruled_out at (Some s) few x r out e = λ reached. few (omega (arith, not_above_le o window x (at s) (sym out ∙ e), reached))
-
-  -- the place of the best so far lies before i
-  pub best_within : (i : ℕ) (best : Option (ℕ × ℕ)) → SoFar upto window percent i best → (b : ℕ × ℕ) → best ≡ Some b → b.0 < i
-  best_within i best so b e = (subst (SoFar upto window percent i) e so).within
 
   -- after the last figure
   pub found : percent ≤ 100 → (i : ℕ) → length window ≤ i → i ≤ length window → (b : Option (ℕ × ℕ)) → SoFar upto window percent i b → MatchOption b (length window ≡ 0) (λ r. Covers upto window percent r.0 r.1)

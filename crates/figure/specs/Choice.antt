@@ -28,13 +28,16 @@ cover_of upto window percent = lowest_of upto (covering upto window percent)
 
 -- the figure at `place` shares its rank with y, and as many figures are not above y as are counted
 abbrev pub RanksWith : {F : Type 0} → (F → F → Bool) → List F → ℕ → ℕ → F → Type 0
-RanksWith {F} upto window place count y = ((d : F) → same_rank upto (slice_index_or window place d) y ≡ true) × (count ≡ not_above upto window y)
+RanksWith {F} upto window place count y =
+    ((d : F) → same_rank upto (slice_index_or window place d) y ≡ true)
+    × (count ≡ not_above upto window y)
 
 -- whatever the cover's call answers, it shares rank and count with the chosen figure
 abbrev pub RanksWithChoice : {F : Type 0} → (F → F → Bool) → List F → ℕ → Result (Option (ℕ × ℕ)) FigureFault → Type 0
 RanksWithChoice upto window percent (Err fault) = Unit {0}
 RanksWithChoice upto window percent (Ok None) = cover_of upto window percent ≡ None
-RanksWithChoice upto window percent (Ok (Some (place, count))) = MatchOption (cover_of upto window percent) ⊥ (RanksWith upto window place count)
+RanksWithChoice upto window percent (Ok (Some (place, count))) =
+    MatchOption (cover_of upto window percent) ⊥ (RanksWith upto window place count)
 
 -- what a call answers that asks whether enough of the window is not above x
 abbrev pub enough_answer : {F : Type 0} → (F → F → Bool) → List F → ℕ → F → Result Bool FigureFault
@@ -43,4 +46,5 @@ enough_answer upto window percent x = unless (denial percent (length window)) (e
 -- enough of a window that is not empty is not above x exactly when its cover is not above x
 abbrev pub BoundedByCover : {F : Type 0} → (F → F → Bool) → List F → ℕ → F → Result Bool FigureFault → Type 0
 BoundedByCover upto window percent x (Err fault) = Unit {0}
-BoundedByCover upto window percent x (Ok enough) = MatchOption (cover_of upto window percent) (length window ≡ 0) (λ y. enough ≡ upto y x)
+BoundedByCover upto window percent x (Ok enough) =
+    MatchOption (cover_of upto window percent) (length window ≡ 0) (λ y. enough ≡ upto y x)

@@ -18,22 +18,30 @@ pub record Covers {F : Type 0} (upto : F → F → Bool) (window : List F) (perc
   pub within : place < length window
   pub counted : (d : F) → count ≡ not_above upto window (slice_index_or window place d)
   pub enough : Reaches window percent count
-  pub lowest : (k : ℕ) (d : F) → k < length window → Reaches window percent (not_above upto window (slice_index_or window k d)) → upto (slice_index_or window place d) (slice_index_or window k d) ≡ true
+  pub lowest : (k : ℕ) (d : F) → k < length window
+      → Reaches window percent (not_above upto window (slice_index_or window k d))
+      → upto (slice_index_or window place d) (slice_index_or window k d) ≡ true
 
 -- what a call for the cover answers: the refusal that is due, or else none for an empty window, or else a cover
 abbrev pub Answered : {F : Type 0} → (F → F → Bool) → List F → ℕ → Result (Option (ℕ × ℕ)) FigureFault → Type 0
 Answered upto window percent (Err fault) = denial percent (length window) ≡ Some fault
 Answered upto window percent (Ok None) = (denial percent (length window) ≡ None) × (length window ≡ 0)
-Answered upto window percent (Ok (Some (place, count))) = (denial percent (length window) ≡ None) × Covers upto window percent place count
+Answered upto window percent (Ok (Some (place, count))) =
+    (denial percent (length window) ≡ None) × Covers upto window percent place count
 
 -- the one freedom of an answer: two places whose figures share a rank, with one count
 abbrev pub SameButPlace : {F : Type 0} → (F → F → Bool) → List F → ℕ × ℕ → ℕ × ℕ → Type 0
-SameButPlace {F} upto window a b = ((d : F) → same_rank upto (slice_index_or window a.0 d) (slice_index_or window b.0 d) ≡ true) × (a.1 ≡ b.1)
+SameButPlace {F} upto window a b =
+    ((d : F) → same_rank upto (slice_index_or window a.0 d) (slice_index_or window b.0 d) ≡ true)
+    × (a.1 ≡ b.1)
 
 -- an answer fixes all other answers but for the place: those are the places that share its figure's rank, with its count
 abbrev pub FreeInPlaceOnly : {F : Type 0} → (F → F → Bool) → List F → ℕ → Result (Option (ℕ × ℕ)) FigureFault → Type 0
 FreeInPlaceOnly upto window percent (Err fault) = Unit {0}
 FreeInPlaceOnly upto window percent (Ok None) = (place count : ℕ) → Covers upto window percent place count → ⊥
 FreeInPlaceOnly upto window percent (Ok (Some answer)) =
-    (place count : ℕ) → (Covers upto window percent place count → (place < length window) × SameButPlace upto window answer (place, count))
-    × (place < length window → SameButPlace upto window answer (place, count) → Covers upto window percent place count)
+    (place count : ℕ)
+    → (Covers upto window percent place count
+    → (place < length window) × SameButPlace upto window answer (place, count))
+    × (place < length window → SameButPlace upto window answer (place, count)
+    → Covers upto window percent place count)

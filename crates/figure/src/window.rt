@@ -39,7 +39,7 @@ impl<'a, F: Figure> Coverage<'a, F> {
         ensures value { result ≡ not_above F.upto self.now.window.now top.now }
         ensures bound { result ≤ length self.now.window.now }
     {
-        // A chain of `filter` and `count` makes the cover take three times as long.
+        // A chain of `filter` and `count` makes the cover take two to four times as long.
         let mut count = 0;
         for figure in self.window {
             if figure.not_above(top) {

@@ -2,6 +2,7 @@ pub mod Refusal
 pub mod Limits
 pub mod Sheet
 pub mod Designation
+pub mod Designated
 pub mod Joining
 pub mod Moves
 pub mod Rows

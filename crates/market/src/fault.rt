@@ -48,7 +48,7 @@ pub enum MarketFault {
 
 impl MarketFault {
     /// The refusal's number; want of memory has none.
-    // Numbers are for those outside; within, the fault itself is passed on.
+    // A rule of the project: each refusal has a number. Within, the fault itself is passed on.
     pub fn number(self) -> Option<u8>
         ensures { result ≡ market_number self }
     {

@@ -22,8 +22,8 @@ pub(crate) fn check_price(former: Option<u32>, price: u32) -> Result<(), PriceFa
     if is_outside_limits(price) {
         return Err(PriceFault::OutsideLimits);
     }
-    match former {
-        Some(former) if u64::from(price) > 2 * u64::from(former) => Err(PriceFault::AboveTwice),
-        _ => Ok(()),
+    if former.is_some_and(|former| u64::from(price) > 2 * u64::from(former)) {
+        return Err(PriceFault::AboveTwice);
     }
+    Ok(())
 }

@@ -1,7 +1,7 @@
 // A row takes one price more.
 ghost use Rattle.market.specs.Limits.{price_fault};
 ghost use Rattle.market.specs.Rows.{newest, latest};
-ghost use Rattle.market.specs.View.{Rolled};
+ghost use Rattle.market.specs.View.{row_of, Rolled};
 ghost use Rattle.std.specs.Prelude.{◌≡◌, ◌≤◌, [], ◌∷◌, ◌++◌, Some, vec_len, vec_capacity};
 ghost use Rattle.std.specs.Result.{result_err};
 
@@ -26,14 +26,14 @@ fn slide<T: Drop>(items: &mut Vec<T>, item: T, most: usize)
 impl Row {
     /// The newest price.
     pub fn newest(&self) -> u32
-        ensures { result ≡ newest self.now.prices }
+        ensures { result ≡ newest (row_of self.now).prices }
     {
-        self.prices[self.prices.len() - 1]
+        *self.prices.last().unwrap()
     }
 
     /// Tests a price that is to follow the newest: it may lie outside its limits, or be above twice the newest.
     pub fn test(&self, price: u32) -> Result<(), PriceFault>
-        ensures { result_err result ≡ price_fault (Some (newest self.now.prices)) price }
+        ensures { result_err result ≡ price_fault (Some (newest (row_of self.now).prices)) price }
     {
         check_price(Some(self.newest()), price)
     }
@@ -41,7 +41,8 @@ impl Row {
     /// Rolls the row forward: appends a price and keeps the latest 121. A price that does not pass the test is
     /// refused, and the row stays as it was.
     pub fn roll(&mut self, price: u32) -> Result<(), PriceFault>
-        ensures answer { result_err result ≡ price_fault (Some (newest self.old.prices)) price }
+        ensures answer { result_err result
+            ≡ price_fault (Some (newest (row_of self.old).prices)) price }
         ensures rolled { Rolled self.old price self.new result }
     {
         self.test(price)?;

@@ -8,6 +8,7 @@ use std::convert::AsSlice;
 
 /// Bytes, held or lent, taken as records of 32 bytes from the start, a shorter remainder ignored.
 /// The first well-formed P record of a code gives its price.
+// Generic in what holds the bytes: an impl with a lifetime cannot have the ghost constant of its letter.
 #[derive(Drop)]
 pub struct Sheet<B> {
     pub bytes: B,

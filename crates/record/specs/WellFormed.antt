@@ -27,12 +27,12 @@ contract_in f = record { code = f.code; settlement = f.date; quantity = f.units;
 abbrev pub by_letter : ℕ → Fields → Option Record
 by_letter letter f =
     if letter == 80 then unused (f.date ∷ f.money ∷ f.spare ∷ []) (Price (quote_in f))
-    else (if letter == 76 then unused (f.date ∷ f.units ∷ f.money ∷ f.spare ∷ []) (Listing f.code)
-    else (if letter == 79 then unused (f.code ∷ f.units ∷ f.money ∷ f.spare ∷ []) (Opening f.date)
-    else (if letter == 66 then unused (f.spare ∷ []) (Bought (contract_in f))
-    else (if letter == 83 then unused (f.spare ∷ []) (Sold (contract_in f))
-    else (if letter == 75 then unused (f.code ∷ f.date ∷ f.units ∷ f.money ∷ f.spare ∷ []) Strike
-    else None)))))
+    else if letter == 76 then unused (f.date ∷ f.units ∷ f.money ∷ f.spare ∷ []) (Listing f.code)
+    else if letter == 79 then unused (f.code ∷ f.units ∷ f.money ∷ f.spare ∷ []) (Opening f.date)
+    else if letter == 66 then unused (f.spare ∷ []) (Bought (contract_in f))
+    else if letter == 83 then unused (f.spare ∷ []) (Sold (contract_in f))
+    else if letter == 75 then unused (f.code ∷ f.date ∷ f.units ∷ f.money ∷ f.spare ∷ []) Strike
+    else None
 
 -- 32 bytes: the letter, three zero bytes, and the fields from byte 4 on
 abbrev pub reading : List ℕ → Option Record

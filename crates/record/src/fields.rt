@@ -1,13 +1,14 @@
 // The fields behind a record's letter and its three zero bytes.
 ghost use Rattle.record.specs.Layout.{fields_at};
-ghost use Rattle.record.specs.WellFormed.{contract_in};
-ghost use Rattle.record.specs.Writing.{contract_fields, field_bytes};
+ghost use Rattle.record.specs.WellFormed.{quote_in, contract_in};
+ghost use Rattle.record.specs.Writing.{quote_fields, contract_fields, field_bytes};
 ghost use Rattle.std.specs.Prelude.{◌≡◌, length, SomeIff, IfSome};
 
 use crate::contract::Contract;
+use crate::quote::Quote;
 
 /// A record's fields, used by its letter or not.
-#[derive(Clone, Copy, Default)]
+#[derive(Clone, Copy, PartialEq, Eq, Default)]
 pub struct Fields {
     pub code: u32,
     pub date: u32,
@@ -39,16 +40,40 @@ impl Fields {
             spare: u64::from_be_bytes(*spare),
         })
     }
+}
 
-    /// The contract that the fields state.
-    pub fn contract(self) -> Contract
-        ensures { result ≡ contract_in self }
-    {
+impl From<Fields> for Quote {
+    ghost from_gives = { λ fields quote. quote ≡ quote_in fields };
+
+    fn from(fields: Fields) -> Quote {
+        Quote {
+            code: fields.code,
+            price: fields.units,
+        }
+    }
+}
+
+impl From<Fields> for Contract {
+    ghost from_gives = { λ fields contract. contract ≡ contract_in fields };
+
+    fn from(fields: Fields) -> Contract {
         Contract {
-            code: self.code,
-            settlement: self.date,
-            quantity: self.units,
-            money: self.money,
+            code: fields.code,
+            settlement: fields.date,
+            quantity: fields.units,
+            money: fields.money,
+        }
+    }
+}
+
+impl From<Quote> for Fields {
+    ghost from_gives = { λ quote fields. fields ≡ quote_fields quote };
+
+    fn from(quote: Quote) -> Fields {
+        Fields {
+            code: quote.code,
+            units: quote.price,
+            ..Fields::default()
         }
     }
 }

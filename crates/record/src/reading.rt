@@ -5,7 +5,6 @@ ghost use Rattle.std.specs.Prelude.{◌≡◌, IfSome};
 
 use crate::entry::Record;
 use crate::fields::Fields;
-use crate::quote::Quote;
 
 /// The record of this letter with these fields, unless the letter is unknown or a field that it does not use is
 /// not zero.
@@ -14,31 +13,17 @@ fn by_letter(letter: u8, fields: Fields) -> Option<Record>
     ensures same_letter { IfSome result (λ said. letter ≡ letter_of said) }
     ensures same_fields { IfSome result (λ said. fields ≡ fields_from said) }
 {
-    let Fields {
-        code,
-        date,
-        units,
-        money,
-        spare,
-    } = fields;
-    match letter {
-        b'P' if date == 0 && money == 0 && spare == 0 => Some(Record::Price(Quote {
-            code,
-            price: units,
-        })),
-        b'L' if date == 0 && units == 0 && money == 0 && spare == 0 => Some(Record::Listing {
-            code,
-        }),
-        b'O' if code == 0 && units == 0 && money == 0 && spare == 0 => Some(Record::Opening {
-            date,
-        }),
-        b'B' if spare == 0 => Some(Record::Bought(fields.contract())),
-        b'S' if spare == 0 => Some(Record::Sold(fields.contract())),
-        b'K' if code == 0 && date == 0 && units == 0 && money == 0 && spare == 0 => Some(
-            Record::Strike,
-        ),
-        _ => None,
-    }
+    let said = match letter {
+        b'P' => Record::Price(fields.into()),
+        b'L' => Record::Listing { code: fields.code },
+        b'O' => Record::Opening { date: fields.date },
+        b'B' => Record::Bought(fields.into()),
+        b'S' => Record::Sold(fields.into()),
+        b'K' => Record::Strike,
+        _ => return None,
+    };
+    // What the record is written with has zero in each field that its letter does not use.
+    (said.fields() == fields).then_some(said)
 }
 
 impl Record {

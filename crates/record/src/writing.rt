@@ -5,13 +5,13 @@ ghost use Rattle.std.specs.Prelude.{◌≡◌, Some};
 
 use crate::entry::Record;
 use crate::fields::Fields;
-use crate::quote::Quote;
 
 /// The letter, three zero bytes and the fields.
 fn spell(letter: u8, fields: Fields) -> [u8; 32]
     ensures { result ≡ spelled letter fields }
 {
-    // The places are those of the format, line by line; a cursor over the bytes would hide them.
+    // The places are those of the format, line by line. A cursor that writes would want a case for each field in which
+    // no room is left, and none of them ever comes.
     let mut bytes = [0; 32];
     bytes[0] = letter;
     bytes[4..8].copy_from_slice(&fields.code.to_be_bytes());
@@ -38,16 +38,12 @@ impl Record {
     }
 
     /// The record's fields, zero where its letter uses none.
-    fn fields(self) -> Fields
+    pub(crate) fn fields(self) -> Fields
         ensures answer { result ≡ fields_from self }
         ensures reads_back { by_letter (letter_of self) result ≡ Some self }
     {
         match self {
-            Record::Price(Quote { code, price }) => Fields {
-                code,
-                units: price,
-                ..Fields::default()
-            },
+            Record::Price(quote) => quote.into(),
             Record::Listing { code } => Fields {
                 code,
                 ..Fields::default()

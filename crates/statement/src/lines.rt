@@ -118,7 +118,7 @@ impl fmt::Display for NoRow {
                 f,
                 "no row: its run holds a price of issue {code}"
             ),
-            NoRow::NoMove { prices, cause } => write!(
+            NoRow::NoCoveringMove { prices, cause } => write!(
                 f,
                 "no covering move (prices in its run: {prices}): {cause}"
             ),

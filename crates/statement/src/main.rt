@@ -65,10 +65,7 @@ fn read_input(rt: &HostRuntime) -> anyhow::Result<Vec<u8>> {
     if args.next().is_some() {
         return Err(anyhow!("one day file at most: statement [DAY-FILE]"));
     }
-    match fs::read(rt, path.as_str()) {
-        Ok(bytes) => Ok(bytes),
-        Err(e) => Err(anyhow!(format!(in rt.alloc(); "{path}: {e}")?)),
-    }
+    fs::read(rt, path.as_str()).map_err(|e| anyhow!("{path}: {e}"))
 }
 
 fn run(rt: &HostRuntime) -> anyhow::Result<()> {

@@ -4,10 +4,13 @@ ghost use Rattle.statement.specs.declared.moves.NoMove.TheVariants.{Memory, Cove
 ghost use Rattle.std.specs.Prelude.{◌≡◌};
 
 use figure::{FigureFault, Ratio, cover};
-use std::alloc::{AllocError, AllocFailed, Global};
+use std::alloc::{AllocFailed, Global};
+
+/// At least so many in a hundred of a run's moves are not above its covering one.
+const PERCENT: u32 = 99;
 
 /// How far an issue moved on its covering day, over the price that it moved from.
-#[derive(Clone, Copy)]
+#[derive(Clone, Copy, PartialEq, Eq, Debug)]
 pub struct CoveringMove {
     pub ratio: Ratio,
     /// The move's place among the moves of the run, from 0.
@@ -19,7 +22,7 @@ pub struct CoveringMove {
 }
 
 /// Why a run of prices has no covering move.
-#[derive(Clone, Copy)]
+#[derive(Clone, Copy, PartialEq, Eq, Debug)]
 pub enum NoMove {
     /// There is no move from one price to the next.
     TooFew,
@@ -45,7 +48,8 @@ impl<T: Drop> From<AllocFailed<T>> for NoMove {
     }
 }
 
-/// The ratio of each move from one price to the next.
+/// The ratio of each move from one price to the next. A run is no row of the market: it has no limits, so that a move
+/// may start from zero.
 fn ratios(heap: Global, prices: &[u32]) -> Result<Vec<Ratio>, NoMove>
     ensures { RatiosOf prices.now result }
 {
@@ -56,9 +60,7 @@ fn ratios(heap: Global, prices: &[u32]) -> Result<Vec<Ratio>, NoMove>
     let mut earlier = *first;
     for later in rest {
         let far = u64::from(later.abs_diff(earlier));
-        let Some(ratio) = Ratio::new(far, u64::from(earlier)) else {
-            return Err(NoMove::ZeroPrice);
-        };
+        let ratio = Ratio::new(far, u64::from(earlier)).ok_or(NoMove::ZeroPrice)?;
         ratios.push(ratio)?;
         earlier = *later;
     }
@@ -70,7 +72,7 @@ pub fn covering_move(heap: Global, prices: &[u32]) -> Result<CoveringMove, NoMov
     ensures { IsCoveringMove prices.now result }
 {
     let ratios = ratios(heap, prices)?;
-    let (place, not_above) = cover(&ratios, 99)?.ok_or(NoMove::TooFew)?;
+    let (place, not_above) = cover(&ratios, PERCENT)?.ok_or(NoMove::TooFew)?;
     Ok(CoveringMove {
         ratio: ratios[place],
         place,

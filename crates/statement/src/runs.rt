@@ -8,7 +8,7 @@ use record::Quote;
 use std::alloc::{AllocError, Global};
 
 /// The row that a listing makes of the run of prices before it.
-#[derive(Clone, Copy)]
+#[derive(Clone, Copy, PartialEq, Eq, Debug)]
 pub struct ListedRow {
     /// How many prices the run has.
     pub prices: usize,
@@ -16,12 +16,12 @@ pub struct ListedRow {
 }
 
 /// Why a listing makes no row.
-#[derive(Clone, Copy)]
+#[derive(Clone, Copy, PartialEq, Eq, Debug)]
 pub enum NoRow {
     /// The run holds a price of another issue, the first of these.
     OtherIssue { code: u32 },
     /// So many prices have no covering move.
-    NoMove { prices: usize, cause: NoMove },
+    NoCoveringMove { prices: usize, cause: NoMove },
     Memory(AllocError),
 }
 
@@ -50,14 +50,13 @@ pub fn listed_run(heap: Global, run: &[Quote], code: u32) -> Result<ListedRow, N
         return Err(NoRow::OtherIssue { code });
     }
     let prices: Vec<u32> = run.iter().map(|quote| quote.price).collect(heap)?;
-    match covering_move(heap, &prices) {
-        Ok(covering) => Ok(ListedRow {
-            prices: prices.len(),
-            covering,
-        }),
-        Err(cause) => Err(NoRow::NoMove {
-            prices: prices.len(),
-            cause,
-        }),
-    }
+    let count = prices.len();
+    let covering = covering_move(heap, &prices).map_err(|cause| NoRow::NoCoveringMove {
+        prices: count,
+        cause,
+    })?;
+    Ok(ListedRow {
+        prices: count,
+        covering,
+    })
 }

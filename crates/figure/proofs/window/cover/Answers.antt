@@ -1,10 +1,12 @@
-use Rattle.figure.proofs.Freeing.{answers}
+use Rattle.figure.proofs.Freeing.{free_and_chosen}
 use Rattle.figure.proofs.window.cover.Goals as goal
 
-pub returns : goal.returns
-returns g c =
-    let window = c.args.window.now in
+pub returns-clause-free_in_place_only : goal.returns-clause-free_in_place_only
+returns-clause-free_in_place_only g c =
     let made = c.in_ok-new.ensures.made in
-    let lowest = rw (made.0, made.1) at c.lowest.ensures in
-    let all = answers g.met.F.Figure.ordered window c.args.percent c.in_ok-new.ensures.answer c.lowest.result lowest in
-    record { answer = all.0; free_in_place_only = all.1; ranks_with_choice = all.2 }
+    (free_and_chosen g.met.F.Figure.ordered c.args.window.now c.args.percent c.lowest.result (rw (made.0, made.1) at c.lowest.ensures)).0
+
+pub returns-clause-ranks_with_choice : goal.returns-clause-ranks_with_choice
+returns-clause-ranks_with_choice g c =
+    let made = c.in_ok-new.ensures.made in
+    (free_and_chosen g.met.F.Figure.ordered c.args.window.now c.args.percent c.lowest.result (rw (made.0, made.1) at c.lowest.ensures)).1

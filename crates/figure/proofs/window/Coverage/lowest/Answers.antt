@@ -1,14 +1,9 @@
-use Rattle.std.proofs.Common.{◌≡◌, ◌<◌, false, sym, ◌∙◌, MatchOption, arith, rules}
+use Rattle.std.proofs.Common.{◌≡◌, false, sym, ◌∙◌, MatchOption, arith, rules}
 use Rattle.std.proofs.lemmas.List.{get_or_read}
 use Rattle.std.proofs.lemmas.Bool.{leb-true, leb-false}
-use Rattle.figure.proofs.Scanning.{Beaten, TooFew, takes, passes_short, passes_beaten, found, ruled_out, best_within}
+use Rattle.figure.proofs.Scanning.{Beaten, TooFew, takes, passes_short, passes_beaten, found, ruled_out}
 use Rattle.figure.proofs.window.Coverage.lowest.Goals as goal
 use Rattle.figure.proofs.window.Coverage.lowest.Goals.{then-is_some_and-via-then-is_some_and, then-is_some_and-via-else-is_some_and+then-is_some_and-2, then-is_reached_by, else-is_reached_by}
-
-pub is_some_and-requires-else-is_some_and : goal.is_some_and-requires-else-is_some_and
-is_some_and-requires-else-is_some_and g c = λ x e.
-    let before : x.0 < c.loop-place.place = best_within g.met.F.Figure.ordered c.args.self.now.window.now c.args.self.now.percent c.loop-place.place c.loop-place.best c.loop-place.invariant.so_far x e in
-    (λ _ _ _ _. omega arith, λ _ _ _ _. omega arith)
 
 pub loop-place-preserved-then-is_some_and : goal.loop-place-preserved-then-is_some_and
 loop-place-preserved-then-is_some_and g c =

@@ -5,46 +5,40 @@ use Rattle.market.proofs.designated.DesignatedList.set.Goals as goal
 
 pub returns-in-None-clause-answer : goal.returns-in-None-clause-answer
 returns-in-None-clause-answer c =
-    set_denied c.self.inside.quotes.items _ (ap prices_by_code c.self.view_is) c.self.invariant.1.once c.args.code c.args.price
+    set_denied c.args.self.now.quotes.items _ refl c.args.self.now.kept.once c.args.code c.args.price
     c.if-code-eq0.false c.if-is_outside_limits.ensures (omega arith) (cc)
 
 pub returns-in-Some-clause-answer : goal.returns-in-Some-clause-answer
 returns-in-Some-clause-answer c =
-    (replaces c.self.inside.quotes.items _ (ap prices_by_code c.self.view_is) c.self.invariant.1.once c.args.code c.args.price
+    (replaces c.args.self.now.quotes.items _ refl c.args.self.now.kept.once c.args.code c.args.price
     c.if-code-eq0.false c.if-is_outside_limits.ensures c.in-Some.place c.index_mut.result.now (cc) c.index_mut.ensures.value).0
 
 pub returns-in-Some-clause-changed_at_the_code_alone : goal.returns-in-Some-clause-changed_at_the_code_alone
 returns-in-Some-clause-changed_at_the_code_alone c =
-    (replaces c.self.inside.quotes.items _ (ap prices_by_code c.self.view_is) c.self.invariant.1.once c.args.code c.args.price
+    (replaces c.args.self.now.quotes.items _ refl c.args.self.now.kept.once c.args.code c.args.price
     c.if-code-eq0.false c.if-is_outside_limits.ensures c.in-Some.place c.index_mut.result.now (cc) c.index_mut.ensures.value).1
 
 pub invariant_of-self-in-None-2 : goal.invariant_of-self-in-None-2
-invariant_of-self-in-None-2 c = (
-  omega arith,
-  rw c.push_reserved.ensures.items
-      (one_more c.self.inside.quotes.items _ (ap prices_by_code c.self.view_is) c.self.invariant.1.once c.args.code c.args.price (omega arith) (cc)),
-)
-
-pub returns-in-None-2-clause-kept : goal.returns-in-None-2-clause-kept
-returns-in-None-2-clause-kept c =
-    rw c.push_reserved.ensures.items
-    (one_more c.self.inside.quotes.items _ (ap prices_by_code c.self.view_is) c.self.invariant.1.once c.args.code c.args.price (omega arith) (cc))
+invariant_of-self-in-None-2 c = record {
+  room = omega arith;
+  kept = rw c.push_reserved.ensures.items (one_more c.args.self.now.quotes.items _ refl c.args.self.now.kept.once c.args.code c.args.price (omega arith) (cc));
+}
 
 pub returns-in-None-2-clause-answer : goal.returns-in-None-2-clause-answer
 returns-in-None-2-clause-answer c =
-    (adds c.self.inside.quotes.items _ (ap prices_by_code c.self.view_is) c.self.invariant.1.once c.args.code c.args.price
+    (adds c.args.self.now.quotes.items _ refl c.args.self.now.kept.once c.args.code c.args.price
     c.if-code-eq0.false c.if-is_outside_limits.ensures (omega arith) (cc)).0
 
 pub returns-in-None-2-clause-changed_at_the_code_alone : goal.returns-in-None-2-clause-changed_at_the_code_alone
 returns-in-None-2-clause-changed_at_the_code_alone c =
     ap prices_by_code c.push_reserved.ensures.items
-    ∙ (adds c.self.inside.quotes.items _ (ap prices_by_code c.self.view_is) c.self.invariant.1.once c.args.code c.args.price
+    ∙ (adds c.args.self.now.quotes.items _ refl c.args.self.now.kept.once c.args.code c.args.price
     c.if-code-eq0.false c.if-is_outside_limits.ensures (omega arith) (cc)).1
 
 pub returns-in-Some-clause-one_more_where_new : goal.returns-in-Some-clause-one_more_where_new
 returns-in-Some-clause-one_more_where_new c =
-    rw (← c.self.view_is) (counted_in_place c.self.inside.quotes.items _ refl c.self.invariant.1.once c.args.code c.in-Some.place _ (cc))
+    (counted_in_place c.args.self.now.quotes.items _ refl c.args.self.now.kept.once c.args.code c.in-Some.place _ (cc))
 
 pub returns-in-None-2-clause-one_more_where_new : goal.returns-in-None-2-clause-one_more_where_new
 returns-in-None-2-clause-one_more_where_new c =
-    rw (c.push_reserved.ensures.items, ← c.self.view_is) (counted_behind c.self.inside.quotes.items _ refl c.self.invariant.1.once c.args.code _ (cc))
+    rw c.push_reserved.ensures.items (counted_behind c.args.self.now.quotes.items _ refl c.args.self.now.kept.once c.args.code _ (cc))

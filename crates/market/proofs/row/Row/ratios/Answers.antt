@@ -4,6 +4,5 @@ use Rattle.market.proofs.row.Row.ratios.Goals as goal
 
 pub returns-clause-count : goal.returns-clause-count
 returns-clause-count c =
-    let count = c.self.invariant.is_row.count in
-    let size = ratios_count _ _ c.self.invariant.ratios in
+    let size = ratios_count _ _ c.args.self.now.moved in
     (omega arith, omega arith)
