@@ -12,7 +12,8 @@ pub enum FigureFault {
 
 impl FigureFault {
     /// The refusal's number.
-    // A rule of the project: each refusal has a number. Within, the fault itself is passed on.
+    // A rule of the project: each refusal has a number, and each layer tells it in this form. Within, the fault itself is
+    // passed on.
     pub fn number(self) -> u8
         ensures { result ≡ fault_number self }
     {

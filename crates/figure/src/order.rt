@@ -7,7 +7,8 @@ ghost use Rattle.figure.specs.Products.{ratio_order};
 use crate::kinds::{Ratio, Yen};
 
 /// Figures of one kind, any two of which compare. Two of which neither is above the other share one rank.
-// This is not std's `Ord`, whose laws want figures of one rank to be equal: 1/2 and 2/4 are not.
+// This is not std's `Ord`, which has figures of one rank be `==`: ratios are `==` where both parts are, as callers were
+// promised, and so 1/2 and 2/4 are not.
 pub trait Figure {
     /// Whether the first figure is not above the second.
     ghost upto: { Self → Self → Bool };

@@ -3,15 +3,9 @@ use std::test::Fail;
 
 #[test]
 fn equal_ranks(rt: HostRuntime) -> Result<(), Fail> {
-    let Some(half) = Ratio::new(1, 2) else {
-        return Err(Fail::new("a half"));
-    };
-    let Some(quarters) = Ratio::new(2, 4) else {
-        return Err(Fail::new("two quarters"));
-    };
-    let Some(third) = Ratio::new(1, 3) else {
-        return Err(Fail::new("a third"));
-    };
+    let half = Ratio::new(1, 2).ok_or_else(|| Fail::new("a half"))?;
+    let quarters = Ratio::new(2, 4).ok_or_else(|| Fail::new("two quarters"))?;
+    let third = Ratio::new(1, 3).ok_or_else(|| Fail::new("a third"))?;
     assert!(rt; same_rank(&half, &quarters));
     assert!(rt; !same_rank(&half, &third));
     let found = cover(&[half, quarters, third], 99);

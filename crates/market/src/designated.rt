@@ -15,6 +15,7 @@ use std::alloc::Global;
 const MOST: usize = 16;
 
 /// Up to 16 issues with prices that the clearing house sets.
+// Ghost fields and no model: what holds is then known of every list that a caller has.
 #[derive(Drop)]
 pub struct DesignatedList {
     // Fixed memory: a map may want some when a price is set, and this has room for all quotes from the start.

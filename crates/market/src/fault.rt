@@ -48,7 +48,8 @@ pub enum MarketFault {
 
 impl MarketFault {
     /// The refusal's number; want of memory has none.
-    // A rule of the project: each refusal has a number. Within, the fault itself is passed on.
+    // A rule of the project: each refusal has a number, and each layer tells it in this form. Within, the fault itself is
+    // passed on.
     pub fn number(self) -> Option<u8>
         ensures { result ≡ market_number self }
     {

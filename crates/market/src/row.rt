@@ -7,6 +7,7 @@ use figure::Ratio;
 
 /// An issue's code and 2 to 121 prices, oldest first, each 1 to 800,000 yen and none more than twice the one
 /// before it; beside them the ratio of each neighbouring pair. There is room for all that it may ever keep.
+// Ghost fields and no model: what holds is then known of every row that a caller has.
 #[derive(Drop)]
 pub struct Row {
     pub(crate) code: u32,

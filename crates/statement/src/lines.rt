@@ -48,6 +48,7 @@ impl fmt::Display for InWords {
 }
 
 /// A record that is malformed, or too short to be one.
+// Refusal 10 arises in the file, which has no type for its faults yet.
 #[derive(Clone, Copy)]
 pub struct Malformed {
     pub length: usize,

@@ -10,6 +10,7 @@ use std::alloc::{AllocFailed, Global};
 const PERCENT: u32 = 99;
 
 /// How far an issue moved on its covering day, over the price that it moved from.
+// Not the market's covering ratio, which is a row's: a run has no limits, so that nothing bounds this.
 #[derive(Clone, Copy, PartialEq, Eq, Debug)]
 pub struct CoveringMove {
     pub ratio: Ratio,
