@@ -99,6 +99,15 @@ stands quotes code place at = record {
 behind : (q : Quote) (quotes : List Quote) (code place : ℕ) → Stands (q ∷ quotes) code (suc place) → Stands quotes code place
 behind q quotes code place s = record { within = omega (arith, s.within); named = s.named; first = λ k d h. s.first (suc k) d (omega (arith, h)) }
 
+-- the price that stands there is the code's
+price_there : (quotes : List Quote) (code place : ℕ) (d : Quote) → Stands quotes code place → get (prices_by_code quotes) code ≡ Some (get_or quotes place d).price
+price_there [] code place d s = absurd (omega (arith, s.within))
+price_there (q ∷ quotes) code zero d s = let named = s.named d in grind (gets, rules)
+price_there (q ∷ quotes) code (suc place) d s =
+    let rest = price_there quotes code place d (behind q quotes code place s) in
+    let other : q.code ≡ code → ⊥ = s.first 0 q (omega arith) in
+    grind (gets, rules)
+
 -- a price is replaced where it stands
 replaced : (quotes : List Quote) (code place : ℕ) (x : Quote) → Stands quotes code place → x.code ≡ code → prices_by_code (set quotes place x) ≡ insert (prices_by_code quotes) code x.price
 replaced [] code place x s named = absurd (omega (arith, s.within))
@@ -128,8 +137,12 @@ module _ (quotes : List Quote) (prices : Prices) (means : prices_by_code quotes 
   designated place at = let same_key = contains_key-prices_by_code quotes code in cc
 
   -- and else none
-  undesignated : position (is_of code) quotes ≡ None → get prices code ≡ None
+  pub undesignated : position (is_of code) quotes ≡ None → get prices code ≡ None
   undesignated none = let same_key = contains_key-prices_by_code quotes code in grind (arith, rules)
+
+  -- what is answered at the code: the price at its place
+  pub priced : (place : ℕ) (d : Quote) → position (is_of code) quotes ≡ Some place → get prices code ≡ Some (get_or quotes place d).price
+  priced place d at = let there = price_there quotes code place d (stands quotes code place at) in cc
 
   -- an issue that is not designated is not removed
   pub remove_denied : position (is_of code) quotes ≡ None → Some (NotDesignated code) ≡ remove_denial prices code

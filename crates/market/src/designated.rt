@@ -1,8 +1,7 @@
 // Prices that the clearing house sets.
 ghost use Rattle.market.specs.Designation.{Designates, set_denial, remove_denial};
 ghost use Rattle.std.specs.FinMap as map;
-ghost use Rattle.std.specs.Prelude.{◌≡◌, ◌+◌, ◌≤◌, ◌==◌, if◌then◌else◌, [], length, find, position, vec_capacity, MatchResult, OnOk, OnErr};
-ghost use Rattle.std.specs.Option.{option_copied};
+ghost use Rattle.std.specs.Prelude.{◌≡◌, ◌+◌, ◌≤◌, ◌==◌, if◌then◌else◌, [], length, position, vec_capacity, MatchResult, OnOk, OnErr};
 ghost use Rattle.std.specs.Result.{result_err};
 
 use crate::fault::MarketFault;
@@ -29,13 +28,6 @@ fn place_of(quotes: &[Quote], code: u32) -> Option<usize>
     ensures { result ≡ position (λ q. q.code == code) quotes.now }
 {
     quotes.iter().position(|quote| quote.code == code)
-}
-
-/// The quote of a code.
-fn quote_of(quotes: &[Quote], code: u32) -> Option<&Quote>
-    ensures { option_copied result ≡ find (λ q. q.code == code) quotes.now }
-{
-    quotes.iter().find(|quote| quote.code == code)
 }
 
 impl DesignatedList {
@@ -97,11 +89,19 @@ impl PriceSource for DesignatedList {
 
     const LETTER: u8 = b'D';
 
-    ghost LETTER = { 68 };
-
     ghost means = { λ list. map.get (prices_of list) };
 
+    ghost mark = { 68 };
+
     fn consult(&mut self, code: u32) -> Option<u32> {
-        quote_of(&self.quotes, code).map(|quote| quote.price)
+        // By its place: with `find` this takes half as long again, or more.
+        let Some(place) = place_of(&self.quotes, code) else {
+            return None;
+        };
+        Some(self.quotes[place].price)
+    }
+
+    fn source_letter(&self) -> u8 {
+        Self::LETTER
     }
 }

@@ -11,12 +11,15 @@ pub struct Joined<A, B> {
     pub second: B,
 }
 
-impl<P: PriceSource, Q: PriceSource> PriceSource for Joined<P, Q> {
-    const LETTER: u8 = b'J';
+// In an impl with parameters the value of `Self::LETTER` is not known to the prover, that of this constant is.
+const JOINED_LETTER: u8 = b'J';
 
-    ghost LETTER = { 74 };
+impl<P: PriceSource, Q: PriceSource> PriceSource for Joined<P, Q> {
+    const LETTER: u8 = JOINED_LETTER;
 
     ghost means = { λ s. joined_price (P.means s.first) (Q.means s.second) };
+
+    ghost mark = { 74 };
 
     // The first two clauses are the trait's, which have to stand again before another.
     fn consult(&mut self, code: u32) -> Option<u32>
@@ -32,5 +35,9 @@ impl<P: PriceSource, Q: PriceSource> PriceSource for Joined<P, Q> {
             Some(price) => Some(price),
             None => self.second.consult(code),
         }
+    }
+
+    fn source_letter(&self) -> u8 {
+        JOINED_LETTER
     }
 }

