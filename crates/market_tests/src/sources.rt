@@ -27,7 +27,7 @@ impl<'a> PriceSource for Lent<'a> {
     }
 }
 
-/// The price of issue 101 in bytes that their holder writes on.
+/// A price in bytes that their holder goes on to write.
 fn price_before_writing(bytes: &mut [u8]) -> Option<u32> {
     let price = Sheet { bytes }.consult(101);
     if let Some(letter) = bytes.first_mut() {
