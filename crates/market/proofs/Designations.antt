@@ -4,8 +4,7 @@ use Rattle.std.specs.Cmp.{nat_cmp_total}
 use Rattle.std.specs.Ordering.{nat_cmp}
 use Rattle.std.specs.FinMap.{get, find as find_key, from_entries, from_entries_push, get-from_entries, insert, remove, contains_key, len, gets, same_map, nat_cmp-IsAntisymmetric}
 use Rattle.std.specs.List as list
-use Rattle.std.specs.List.{find, position, AllPairs}
-use Rattle.std.specs.Option.{option_map}
+use Rattle.std.specs.List.{position, AllPairs}
 use Rattle.std.proofs.lemmas.Bool.Decides.{nat_tests}
 use Rattle.std.proofs.lemmas.List.{map_push, length_push}
 use Rattle.std.proofs.lemmas.List.Quantifiers.{position-Some, all_pairs_push}
@@ -40,13 +39,8 @@ abbrev entry : Quote → ℕ × ℕ
 entry q = (q.code, q.price)
 
 -- whether a quote is of the code
-abbrev pub is_of : ℕ → Quote → Bool
+abbrev is_of : ℕ → Quote → Bool
 is_of code q = eqb q.code code
-
--- the first quote of a code gives its price
-pub get-prices_by_code : (quotes : List Quote) (code : ℕ) → get (prices_by_code quotes) code ≡ option_map (λ (q : Quote). q.price) (find (is_of code) quotes)
-get-prices_by_code [] code = grind (gets, rules)
-get-prices_by_code (q ∷ quotes) code = let rest = get-prices_by_code quotes code in grind (gets, rules)
 
 -- a code has a price exactly where a quote has the code
 contains_key-prices_by_code : (quotes : List Quote) (code : ℕ) → contains_key (prices_by_code quotes) code ≡ is_some (position (is_of code) quotes)
